@@ -1,0 +1,5 @@
+pub mod Alterations
+pub mod Ballots
+pub mod Names
+pub mod Rules
+pub mod Scores

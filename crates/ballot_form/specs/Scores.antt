@@ -1,0 +1,35 @@
+-- First preferences, and scores as sums of points.
+use Rattle.std.specs.Prelude.{ℕ, ◌+◌, ◌-◌, ◌==◌, Bool, false, List, Option, Some, None, if◌then◌else◌, slice_get, position, count_by}
+use Rattle.mov_base.specs.Sums.{add_up}
+
+-- the first candidate on a ballot; none on a blank one
+abbrev pub first_of : List ℕ → Option ℕ
+first_of row = slice_get row 0
+
+abbrev pub is_some_of : Option ℕ → ℕ → Bool
+is_some_of None x = false
+is_some_of (Some y) x = y == x
+
+-- x is the first candidate on the ballot
+abbrev pub is_first : List ℕ → ℕ → Bool
+is_first row x = is_some_of (first_of row) x
+
+-- how many ballots put x first
+abbrev pub first_count : List (List ℕ) → ℕ → ℕ
+first_count rows x = count_by (λ row. is_first row x) rows
+
+-- plurality: a ballot gives 1 to its first candidate
+abbrev pub plurality_points : List ℕ → ℕ → ℕ
+plurality_points row x = if is_first row x then 1 else 0
+
+abbrev pub points_at : ℕ → Option ℕ → ℕ
+points_at c None = 0
+points_at c (Some i) = c - (i + 1)
+
+-- Borda: of c candidates the one at place r, from 1, earns c - r; one that isn't on the ballot earns 0
+abbrev pub borda_points : ℕ → List ℕ → ℕ → ℕ
+borda_points c row x = points_at c (position (λ y. y == x) row)
+
+-- the score of x: the sum of the points that the ballots give it
+abbrev pub score_of : (List ℕ → ℕ → ℕ) → List (List ℕ) → ℕ → ℕ
+score_of points rows x = add_up (λ row. points row x) rows
