@@ -1,5 +1,6 @@
 -- First preferences, and scores as sums of points.
-use Rattle.std.specs.Prelude.{ℕ, ◌+◌, ◌-◌, ◌==◌, Bool, false, List, Option, Some, None, if◌then◌else◌, slice_get, position, count_by}
+use Rattle.std.specs.Prelude.{ℕ, ◌-◌, ◌==◌, Bool, false, List, [], ◌∷◌, Option, Some, None, if◌then◌else◌, option_map, slice_get, count_by}
+use Rattle.std.proofs.Common.{suc}
 use Rattle.mov_base.specs.Sums.{add_up}
 
 -- the first candidate on a ballot; none on a blank one
@@ -22,13 +23,18 @@ first_count rows x = count_by (λ row. is_first row x) rows
 abbrev pub plurality_points : List ℕ → ℕ → ℕ
 plurality_points row x = if is_first row x then 1 else 0
 
+-- the place of x on a ballot, from 1, if it is on it
+abbrev pub place_of : ℕ → List ℕ → Option ℕ
+place_of x [] = None
+place_of x (y ∷ ys) = if y == x then Some 1 else option_map suc (place_of x ys)
+
 abbrev pub points_at : ℕ → Option ℕ → ℕ
 points_at c None = 0
-points_at c (Some i) = c - (i + 1)
+points_at c (Some r) = c - r
 
 -- Borda: of c candidates the one at place r, from 1, earns c - r; one that isn't on the ballot earns 0
 abbrev pub borda_points : ℕ → List ℕ → ℕ → ℕ
-borda_points c row x = points_at c (position (λ y. y == x) row)
+borda_points c row x = points_at c (place_of x row)
 
 -- the score of x: the sum of the points that the ballots give it
 abbrev pub score_of : (List ℕ → ℕ → ℕ) → List (List ℕ) → ℕ → ℕ

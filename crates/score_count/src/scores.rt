@@ -1,0 +1,85 @@
+// The scores of the candidates.
+ghost use Rattle.std.specs.Prelude.{◌≡◌, ◌==◌, ◌+◌, ◌*◌, ◌<◌, ◌^◌, if◌then◌else◌, EachIndex, IfOk, IfSome, length, slice_index};
+ghost use Rattle.ballot_form.specs.Ballots.{IsValidBallot};
+ghost use Rattle.ballot_form.specs.Scores.{borda_points, is_some_of, plurality_points, score_of};
+ghost use Rattle.score_count.specs.Winners.{AreScores};
+
+use ballot_form::{Cand, Roll, ScoreList};
+use mov_base::Memory;
+use std::alloc::Global;
+
+/// For each candidate, how many ballots put it first.
+pub fn plurality(alloc: Global, roll: &Roll) -> Result<ScoreList, Memory>
+    ensures { IfOk result (λ scores. AreScores plurality_points roll.now scores) }
+{
+    let mut scores = vec![in alloc; 0u64; roll.candidates() as usize]?;
+    add_firsts(roll, scores.as_mut_slice());
+    Ok(ScoreList::from_vec(scores))
+}
+
+/// Adds to each candidate's number how many ballots put it first.
+#[tactic(auto, using(crate::proofs::Points::plurality_more))]
+fn add_firsts(roll: &Roll, scores: &mut [u64])
+    requires size { length scores.old ≡ roll.now.c }
+    requires none { EachIndex scores.old (λ x. slice_index scores.old x ≡ 0) }
+    ensures { EachIndex scores.new (λ x. slice_index scores.new x ≡ score_of plurality_points roll.now.rows x) }
+{
+    for i in 0..roll.len() {
+        give(scores, roll.first(i));
+    }
+}
+
+/// Gives one to the candidate, if there is one.
+fn give(scores: &mut [u64], first: Option<Cand>)
+    requires within { IfSome first (λ x. x < length scores.old) }
+    requires room { IfSome first (λ x. slice_index scores.old x + 1 < 2 ^ 64) }
+    ensures { EachIndex scores.new (λ x. slice_index scores.new x ≡ slice_index scores.old x + (if is_some_of first x then 1 else 0)) }
+{
+    if let Some(x) = first {
+        scores[x as usize] += 1;
+    }
+}
+
+/// For each candidate, the sum of the points that the ballots give it by its place.
+pub fn borda(alloc: Global, roll: &Roll) -> Result<ScoreList, Memory>
+    ensures { IfOk result (λ scores. AreScores (borda_points roll.now.c) roll.now scores) }
+{
+    let mut scores = vec![in alloc; 0u64; roll.candidates() as usize]?;
+    add_places(roll, scores.as_mut_slice());
+    Ok(ScoreList::from_vec(scores))
+}
+
+/// Adds to each candidate's number the points that the ballots give it.
+#[tactic(auto, using(crate::proofs::Points::borda_more, crate::proofs::Points::borda_few))]
+fn add_places(roll: &Roll, scores: &mut [u64])
+    requires size { length scores.old ≡ roll.now.c }
+    requires none { EachIndex scores.old (λ x. slice_index scores.old x ≡ 0) }
+    ensures { EachIndex scores.new (λ x. slice_index scores.new x ≡ score_of (borda_points roll.now.c) roll.now.rows x) }
+{
+    let c = roll.candidates();
+    for i in 0..roll.len() {
+        give_by_place(c, roll.row(i), scores);
+    }
+}
+
+/// Gives each candidate of the ballot the points of its place.
+#[tactic(auto, using(crate::proofs::Places::borda_place, crate::proofs::Points::borda_few))]
+fn give_by_place(c: u8, row: &[Cand], scores: &mut [u64])
+    requires valid { IsValidBallot c row.now }
+    requires size { length scores.old ≡ c }
+    requires room { EachIndex scores.old (λ x. slice_index scores.old x + 2 * c < 2 ^ 64) }
+    ensures { EachIndex scores.new (λ x. slice_index scores.new x ≡ slice_index scores.old x + borda_points c row.now x) }
+{
+    for (i, x) in row.iter().enumerate() {
+        award(scores, *x, (c as usize - (i + 1)) as u64);
+    }
+}
+
+/// Gives the candidate so many points.
+fn award(scores: &mut [u64], x: Cand, points: u64)
+    requires within { x < length scores.old }
+    requires room { slice_index scores.old x + points < 2 ^ 64 }
+    ensures { EachIndex scores.new (λ y. slice_index scores.new y ≡ slice_index scores.old y + (if x == y then points else 0)) }
+{
+    scores[x as usize] += points;
+}
