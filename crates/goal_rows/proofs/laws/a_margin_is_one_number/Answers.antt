@@ -1,0 +1,5 @@
+use Rattle.goal_rows.proofs.Reporting.{one_margin}
+use Rattle.goal_rows.proofs.laws.a_margin_is_one_number.Goals as goal
+
+pub returns : goal.returns
+returns c = one_margin

@@ -1,0 +1,33 @@
+// Goals.
+ghost use Rattle.std.specs.Prelude.{◌≡◌, IfOk};
+
+use ballot_form::Cand;
+use mov_base::{Copies, Memory};
+use std::alloc::Global;
+
+/// What replacements are to reach so that the outcome turns.
+#[derive(Debug, Drop)]
+pub enum Goal {
+    /// Any outcome other than the reported one is admitted.
+    Root,
+    /// The first candidate's count is brought up to the second one's.
+    Pair(Cand, Cand),
+}
+
+impl Goal {
+    /// An equal goal.
+    pub fn copy(&self) -> Result<Goal, Memory>
+        ensures { IfOk result (λ copy. copy ≡ self.now) }
+    {
+        match self {
+            Goal::Root => Ok(Goal::Root),
+            Goal::Pair(gainer, loser) => Ok(Goal::Pair(*gainer, *loser)),
+        }
+    }
+}
+
+impl Copies for Goal {
+    fn copied(&self, _alloc: Global) -> Result<Goal, Memory> {
+        self.copy()
+    }
+}

@@ -1,0 +1,17 @@
+//! Outcomes, turning, margins and goals.
+//!
+//! In `specs/` stand the definitions of an admitted outcome, of the reported one, of turning the outcome, and of the margin, for
+//! every rule alike; so far plurality has joined them. `reported` answers the reported outcome. The crate stands on `ballot_form`
+//! and on the crates that count.
+#![tactic(auto)]
+
+mod goals;
+mod laws;
+mod outcomes;
+
+pub use goals::Goal;
+pub use laws::{a_margin_is_one_number, a_reported_outcome_is_one};
+pub use outcomes::reported;
+
+#[cfg(test)]
+mod tests;
