@@ -1,1 +1,5 @@
 pub mod Reporting
+pub mod Turning
+pub mod Chosen
+pub mod Bounds
+pub mod Nearest

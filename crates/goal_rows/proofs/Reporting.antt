@@ -1,14 +1,14 @@
 -- The reported outcome of plurality by the list of scores; one outcome is reported, and one number is the margin.
-use Rattle.std.proofs.Common.{ℕ, List, ◌≡◌, ◌<◌, ◌≤◌, ◌∙◌, sym, ap, arith, inl, inr, length, get_or}
+use Rattle.std.proofs.Common.{ℕ, List, ◌≡◌, ◌<◌, ap, arith, inl, inr}
 use Rattle.std.proofs.lemmas.Bool.{cases_lt}
 use Rattle.ballot_form.specs.Ballots.{Poll}
-use Rattle.ballot_form.specs.Scores.{plurality_points, score_of}
+use Rattle.ballot_form.specs.Scores.{plurality_points}
 use Rattle.ballot_form.specs.declared.outcome.Outcome.{Outcome}
 use Rattle.ballot_form.specs.declared.outcome.Outcome.TheVariants.{Winner, NoWinner, Seats}
 use Rattle.ballot_form.specs.declared.rule.Rule.{Rule}
 use Rattle.ballot_form.specs.declared.rule.Rule.TheVariants.{Plurality, Borda, Condorcet, Dhondt, Irv}
 use Rattle.score_count.specs.Winners.{AreScores, IsScoreWinner}
-use Rattle.goal_rows.specs.Outcomes.{Admits, HasGreatestScore, IsLowestWithGreatest, IsReported}
+use Rattle.goal_rows.specs.Outcomes.{Admits, IsLowestWithGreatest, IsReported}
 use Rattle.goal_rows.specs.Margins.{IsMargin}
 
 -- who wins by the list of scores has the greatest score, and the lowest number of those
@@ -30,7 +30,7 @@ reported_winner rule p scores x is are wins = rw is (lowest_with_greatest plural
 pub admitted_winner : (rule : Rule) (p : Poll) (scores : List ℕ) (x : ℕ) → rule ≡ Plurality → AreScores plurality_points p scores → IsScoreWinner scores x → Admits rule p (Winner x)
 admitted_winner rule p scores x is are wins = rw is (lowest_with_greatest plurality_points p scores x are wins).greatest
 
-one_lowest : (points : List ℕ → ℕ → ℕ) (p : Poll) (x y : ℕ) → IsLowestWithGreatest points p x → IsLowestWithGreatest points p y → x ≡ y
+pub one_lowest : (points : List ℕ → ℕ → ℕ) (p : Poll) (x y : ℕ) → IsLowestWithGreatest points p x → IsLowestWithGreatest points p y → x ≡ y
 one_lowest points p x y a b = elim (cases_lt x y) [
   | inl lt ↦ absurd (omega (arith, b.lowest x lt, a.greatest.greatest y b.greatest.stands))
   | inr ge ↦ elim (cases_lt y x) [

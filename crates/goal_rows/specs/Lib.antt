@@ -1,2 +1,3 @@
 pub mod Margins
 pub mod Outcomes
+pub mod Pairs

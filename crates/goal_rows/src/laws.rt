@@ -1,10 +1,15 @@
 // What follows from the definitions.
-ghost use Rattle.std.specs.Prelude.{◌≡◌, ℕ};
-ghost use Rattle.ballot_form.specs.Ballots.{Poll};
+ghost use Rattle.std.specs.Prelude.{◌≡◌, ◌↔◌, ◌+◌, ◌≤◌, ℕ, List, length};
+ghost use Rattle.mov_base.specs.Sums.{add_up};
+ghost use Rattle.ballot_form.specs.Alterations.{IsAlteration, after};
+ghost use Rattle.ballot_form.specs.Ballots.{IsValidBallot, Poll};
 ghost use Rattle.ballot_form.specs.declared.outcome.Outcome.{Outcome as AnOutcome};
 ghost use Rattle.ballot_form.specs.declared.rule.Rule.{Rule as ARule};
-ghost use Rattle.goal_rows.specs.Margins.{IsMargin};
+ghost use Rattle.goal_rows.specs.Margins.{IsMargin, Turns};
+ghost use Rattle.ballot_form.specs.declared.outcome.Outcome.TheVariants.{Winner};
+ghost use Rattle.ballot_form.specs.declared.rule.Rule.TheVariants.{Plurality};
 ghost use Rattle.goal_rows.specs.Outcomes.{IsReported};
+ghost use Rattle.goal_rows.specs.Pairs.{IsLevel, Reaches};
 
 /// There is one reported outcome at most.
 pub fn a_reported_outcome_is_one()
@@ -14,4 +19,19 @@ pub fn a_reported_outcome_is_one()
 /// There is one margin at most.
 pub fn a_margin_is_one_number()
     ensures { (rule : ARule) (p : Poll) (k other : ℕ) → IsMargin rule p k → IsMargin rule p other → k ≡ other }
+{}
+
+/// Under plurality the outcome turns exactly where the score of some other candidate reaches that of the reported one.
+pub fn plurality_turns_where_a_challenger_is_level()
+    ensures { (p : Poll) (x : ℕ) (changes : List (ℕ × List ℕ)) → IsReported Plurality p (Winner x) →
+        Turns Plurality p changes ↔ ((j : ℕ) × IsLevel (after p changes) x j) }
+{}
+
+/// Where an alteration brings a gainer level with a loser, the largest gains of as many ballots make up what the gainer was behind.
+/// A ballot may count any number for each of the two, if no valid ballot counts for the gainer more than `top` beyond what it counts
+/// for the loser.
+pub fn replacements_bring_at_most_the_largest_gains()
+    ensures { (top : ℕ) (plus minus : List ℕ → ℕ) (p : Poll) (changes : List (ℕ × List ℕ)) →
+        ((row : List ℕ) → IsValidBallot p.c row → plus row ≤ top + minus row) → IsAlteration p changes →
+        add_up minus (after p changes).rows ≤ add_up plus (after p changes).rows → Reaches top plus minus p.rows (length changes) }
 {}

@@ -10,7 +10,10 @@ mod laws;
 mod outcomes;
 
 pub use goals::Goal;
-pub use laws::{a_margin_is_one_number, a_reported_outcome_is_one};
+pub use laws::{
+    a_margin_is_one_number, a_reported_outcome_is_one, plurality_turns_where_a_challenger_is_level,
+    replacements_bring_at_most_the_largest_gains,
+};
 pub use outcomes::reported;
 
 #[cfg(test)]
