@@ -6,13 +6,7 @@ use Rattle.std.proofs.lemmas.Bool.Decides.{nat_tests}
 use Rattle.ballot_form.specs.Alterations.{IsAlterationFrom, after_from}
 use Rattle.ballot_form.specs.Ballots.{IsValidBallot}
 use Rattle.ballot_form.specs.Scores.{first_of, is_first, is_some_of, plurality_points, score_of}
-use Rattle.goal_rows.specs.Pairs.{ComeFirst, gain_of, plurality_gains, points_for, puts_of}
-
--- the numbers of the first k ballots that x leads, where the first ballot has the number i
-abbrev pub chosen : ℕ → ℕ → ℕ → List (List ℕ) → List ℕ
-chosen x i zero rows = []
-chosen x i (suc k) [] = []
-chosen x i (suc k) (row ∷ rows) = cond (is_first row x) (i ∷ chosen x (i + 1) k rows) (chosen x (i + 1) (suc k) rows)
+use Rattle.goal_rows.specs.Pairs.{ComeFirst, first_led, gain_of, plurality_gains, points_for, puts_of}
 
 -- ---- one ballot
 
@@ -43,12 +37,12 @@ points_if : (t : Bool) (s k : ℕ) → suc k ≤ cond t 1 0 + s → (t ≡ true 
 points_if true s k enough = (λ e. omega arith, λ e. absurd (cc))
 points_if false s k enough = (λ e. absurd (cc), λ e. omega arith)
 
-pub length-chosen : (x i k : ℕ) (rows : List (List ℕ)) → k ≤ score_of plurality_points rows x → length (chosen x i k rows) ≡ k
+pub length-chosen : (x i k : ℕ) (rows : List (List ℕ)) → k ≤ score_of plurality_points rows x → length (first_led x i k rows) ≡ k
 length-chosen x i zero rows enough = refl
 length-chosen x i (suc k) [] enough = absurd (omega arith)
 length-chosen x i (suc k) (row ∷ rows) enough =
     let fits = points_if (is_first row x) (score_of plurality_points rows x) k enough in
-    one_longer (is_first row x) i (chosen x (i + 1) k rows) (chosen x (i + 1) (suc k) rows) k i
+    one_longer (is_first row x) i (first_led x (i + 1) k rows) (first_led x (i + 1) (suc k) rows) k i
     (λ e. length-chosen x (i + 1) k rows (fits.0 e)) (λ e. length-chosen x (i + 1) (suc k) rows (fits.1 e))
 
 -- ---- they are an alteration
@@ -62,11 +56,11 @@ one_change_more : (c g i n : ℕ) (t : Bool) (xs ys : List ℕ) → g < c → i 
 one_change_more c g i n true xs ys lt le one two = (omega arith, le, alone_valid c g lt, one)
 one_change_more c g i n false xs ys lt le one two = from_earlier c i n (puts_of g ys) two
 
-pub alters : (c g x i k n : ℕ) (rows : List (List ℕ)) → g < c → i + length rows ≡ n + 1 → IsAlterationFrom c i n (puts_of g (chosen x i k rows))
+pub alters : (c g x i k n : ℕ) (rows : List (List ℕ)) → g < c → i + length rows ≡ n + 1 → IsAlterationFrom c i n (puts_of g (first_led x i k rows))
 alters c g x i zero n rows lt size = tt
 alters c g x i (suc k) n [] lt size = tt
 alters c g x i (suc k) n (row ∷ rows) lt size =
-    one_change_more c g i n (is_first row x) (chosen x (i + 1) k rows) (chosen x (i + 1) (suc k) rows) lt (omega arith)
+    one_change_more c g i n (is_first row x) (first_led x (i + 1) k rows) (first_led x (i + 1) (suc k) rows) lt (omega arith)
     (alters c g x (i + 1) k n rows lt (omega arith)) (alters c g x (i + 1) (suc k) n rows lt (omega arith))
 
 -- ---- what they do to the scores
@@ -119,12 +113,12 @@ moved_by c n x g k i true row rows xs ys differ first ok yes_it no_it = moved_he
 moved_by c n x g k i false row rows xs ys differ first ok yes_it no_it = moved_later c n x g (suc k) i row rows ys ok (no_it refl)
 
 pub moved : (c x g i k n : ℕ) (rows : List (List ℕ)) → g < c → g ≢ x → i + length rows ≡ n + 1 → k ≤ score_of plurality_points rows x
-    → Moved x g k rows (after_from i rows (puts_of g (chosen x i k rows)))
+    → Moved x g k rows (after_from i rows (puts_of g (first_led x i k rows)))
 moved c x g i zero n rows lt differ size enough = rw (after_none i rows) (record { lost = omega arith; won = omega arith })
 moved c x g i (suc k) n [] lt differ size enough = absurd (omega arith)
 moved c x g i (suc k) n (row ∷ rows) lt differ size enough =
     let fits = points_if (is_first row x) (score_of plurality_points rows x) k enough in
-    moved_by c n x g k i (is_first row x) row rows (chosen x (i + 1) k rows) (chosen x (i + 1) (suc k) rows) differ refl
+    moved_by c n x g k i (is_first row x) row rows (first_led x (i + 1) k rows) (first_led x (i + 1) (suc k) rows) differ refl
     (alters c g x (i + 1) (suc k) n rows lt (omega arith))
     (λ e. moved c x g (i + 1) k n rows lt differ (omega arith) (fits.0 e))
     (λ e. moved c x g (i + 1) (suc k) n rows lt differ (omega arith) (fits.1 e))
@@ -173,11 +167,11 @@ led_by x i m true row rows xs ys first one two has = elim (contains_cases i m xs
 ]
 led_by x i m false row rows xs ys first one two has = later_led x i row rows m (two has)
 
-chosen_led : (x i k m : ℕ) (rows : List (List ℕ)) → Contains (chosen x i k rows) m → IsLed x i rows m
+chosen_led : (x i k m : ℕ) (rows : List (List ℕ)) → Contains (first_led x i k rows) m → IsLed x i rows m
 chosen_led x i zero m rows has = absurd (contains_none m has)
 chosen_led x i (suc k) m [] has = absurd (contains_none m has)
 chosen_led x i (suc k) m (row ∷ rows) has =
-    led_by x i m (is_first row x) row rows (chosen x (i + 1) k rows) (chosen x (i + 1) (suc k) rows) refl (chosen_led x (i + 1) k m rows) (chosen_led x (i + 1) (suc k) m rows) has
+    led_by x i m (is_first row x) row rows (first_led x (i + 1) k rows) (first_led x (i + 1) (suc k) rows) refl (chosen_led x (i + 1) k m rows) (chosen_led x (i + 1) (suc k) m rows) has
 
 -- a ballot that x leads and that isn't chosen comes after all that are
 earlier_by : (x i k m j : ℕ) (t : Bool) (row : List ℕ) (rows : List (List ℕ)) (xs ys : List ℕ) → t ≡ is_first row x
@@ -201,11 +195,11 @@ earlier_by x i k m j false row rows xs ys first is one two out has = elim (cases
       two (record { from = le; to = omega (arith, is.to); led = led_later x i row rows j le ∙ is.led }) out has
 ]
 
-chosen_earlier : (x i k m j : ℕ) (rows : List (List ℕ)) → IsLed x i rows j → (Contains (chosen x i k rows) j → ⊥) → Contains (chosen x i k rows) m → m < j
+chosen_earlier : (x i k m j : ℕ) (rows : List (List ℕ)) → IsLed x i rows j → (Contains (first_led x i k rows) j → ⊥) → Contains (first_led x i k rows) m → m < j
 chosen_earlier x i zero m j rows is out has = absurd (contains_none m has)
 chosen_earlier x i (suc k) m j [] is out has = absurd (contains_none m has)
 chosen_earlier x i (suc k) m j (row ∷ rows) is out has =
-    earlier_by x i k m j (is_first row x) row rows (chosen x (i + 1) k rows) (chosen x (i + 1) (suc k) rows) refl is
+    earlier_by x i k m j (is_first row x) row rows (first_led x (i + 1) k rows) (first_led x (i + 1) (suc k) rows) refl is
     (chosen_earlier x (i + 1) k m j rows) (chosen_earlier x (i + 1) (suc k) m j rows) out has
 
 -- ---- gains
@@ -225,7 +219,7 @@ length-gains : (g x : ℕ) (rows : List (List ℕ)) → length (plurality_gains 
 length-gains g x [] = refl
 length-gains g x (row ∷ rows) = ap suc (length-gains g x rows)
 
-pub come_first : (g x k : ℕ) (rows : List (List ℕ)) → g ≢ x → ComeFirst (plurality_gains g x rows) (chosen x 1 k rows)
+pub come_first : (g x k : ℕ) (rows : List (List ℕ)) → g ≢ x → ComeFirst (plurality_gains g x rows) (first_led x 1 k rows)
 come_first g x k rows differ i j has some most out =
     let led = chosen_led x 1 k i rows has in
     let size = length-gains g x rows in

@@ -1,10 +1,11 @@
 -- Pairs of candidates: the gainer, whose count is to reach that of the loser. A ballot counts `plus` for the gainer and `minus`
 -- for the loser, and no valid ballot counts for the gainer more than `top` beyond what it counts for the loser.
-use Rattle.std.specs.Prelude.{◌≡◌, ◌≢◌, ◌⊎◌, ℕ, ◌+◌, ◌-◌, ◌<◌, ◌≤◌, List, [], ◌∷◌, Contains, length, map, slice_index}
+use Rattle.std.specs.Prelude.{◌≡◌, ◌≢◌, ◌⊎◌, ℕ, ◌+◌, ◌-◌, ◌<◌, ◌≤◌, List, [], ◌∷◌, Contains, length, map, if◌then◌else◌, slice_index}
+use Rattle.std.proofs.Common.{zero, suc}
 use Rattle.mov_base.specs.Sums.{add_up, most}
 use Rattle.ballot_form.specs.Alterations.{IsAlteration}
 use Rattle.ballot_form.specs.Ballots.{Poll}
-use Rattle.ballot_form.specs.Scores.{plurality_points, score_of}
+use Rattle.ballot_form.specs.Scores.{is_first, plurality_points, score_of}
 use Rattle.ballot_form.specs.declared.rule.Rule.TheVariants.{Plurality}
 use Rattle.goal_rows.specs.Margins.{IsMargin, Turns}
 
@@ -53,6 +54,12 @@ pub record IsCheapest (p : Poll) (x g : ℕ) (numbers : List ℕ) : Type 0 where
   pub nearest : IsNearest p x g (length numbers)
   pub alteration : IsAlteration p (puts_of g numbers)
   pub first : ComeFirst (plurality_gains g x p.rows) numbers
+
+-- the numbers of the first k ballots that x leads, where the first ballot has the number i
+abbrev pub first_led : ℕ → ℕ → ℕ → List (List ℕ) → List ℕ
+first_led x i zero rows = []
+first_led x i (suc k) [] = []
+first_led x i (suc k) (row ∷ rows) = if is_first row x then i ∷ first_led x (i + 1) k rows else first_led x (i + 1) (suc k) rows
 
 -- j is a challenger of x whose score reaches that of x
 pub record IsLevel (p : Poll) (x j : ℕ) : Type 0 where

@@ -1,0 +1,13 @@
+//! One run of the program, from the words and the files to the text and the status.
+//!
+//! `run` does all that the program does, and its contract says what a run leaves, for each command and each way to end. The crate
+//! stands on the outside, on the ballot file and on the crates that count and define the margin.
+#![tactic(auto)]
+
+mod certificate;
+mod margin;
+mod text;
+
+pub use certificate::{Cert, Found};
+pub use margin::margin;
+pub use text::print_cert;
