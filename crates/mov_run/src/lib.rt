@@ -5,9 +5,9 @@
 #![tactic(auto)]
 
 mod certificate;
-mod margin;
+mod margins;
 mod text;
 
 pub use certificate::{Cert, Found};
-pub use margin::margin;
+pub use margins::margin;
 pub use text::print_cert;

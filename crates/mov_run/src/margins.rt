@@ -1,5 +1,5 @@
 // The margin under plurality.
-ghost use Rattle.std.specs.Prelude.{◌≡◌, ◌≢◌, ◌+◌, ◌*◌, ◌-◌, ◌<◌, ◌≤◌, ℕ, IfOk, length, slice_index};
+ghost use Rattle.std.specs.Prelude.{◌≡◌, ◌+◌, ◌*◌, ◌-◌, ◌<◌, ◌≤◌, ℕ, [], IfOk, length, slice_index, slice_index_or};
 ghost use Rattle.ballot_form.specs.Scores.{is_first, plurality_points, score_of};
 ghost use Rattle.goal_rows.specs.Outcomes.{IsLowestWithGreatest};
 ghost use Rattle.goal_rows.specs.Pairs.{first_led};
@@ -125,7 +125,6 @@ fn lacking(scores: &[u64], winner: Cand, challenger: Cand) -> u64
 
 /// The numbers of the first `count` ballots that the candidate leads.
 fn led_by(alloc: Global, roll: &Roll, x: Cand, count: u64) -> Result<NumberList, Memory>
-    requires { count ≤ 1000000 }
     ensures { IfOk result (λ numbers. numbers ≡ first_led x 1 count roll.now.rows) }
 {
     let mut numbers = Vec::with_capacity(alloc, count as usize)?;
