@@ -5,9 +5,15 @@
 #![tactic(auto)]
 
 mod certificate;
+mod jobs;
 mod margins;
+mod runs;
+mod stops;
 mod text;
 
-pub use certificate::{Cert, Found};
+pub use certificate::{Cert, Found, NumberList};
+pub use jobs::{Job, WordFault, parse};
 pub use margins::margin;
+pub use runs::{Output, Status, run};
+pub use stops::Stop;
 pub use text::print_cert;

@@ -1,0 +1,171 @@
+-- The plain form of a contest is read as that contest.
+use Rattle.std.proofs.Common.{ℕ, List, [], ◌∷◌, ◌++◌, ◌≡◌, ◌∙◌, ◌+◌, ◌<◌, ◌≤◌, refl, sym, ap, subst, Bool, false, true, All, Some, None, length, zero, suc, arith, inl, inr, map, replicate, append_assoc, length-append, get_or}
+use Rattle.std.specs.Prelude.{◌==◌, ◌≢◌, ⊤, AllPairs, Ok, codes, nat_lt, not, position}
+use Rattle.std.specs.List.{list_any, prefix_len}
+use Rattle.std.specs.Str.{bytes_eq}
+use Rattle.std.proofs.Math.Seq.{get_or-append_seam}
+use Rattle.std.proofs.lemmas.Bool.{cases_Bool, ne_eqb}
+use Rattle.std.proofs.lemmas.Bool.Decides.{nat_tests}
+use Rattle.std.proofs.lemmas.List.{get_or_append_left, length-replicate}
+use Rattle.std.proofs.lemmas.List.Elements.{All-cons, All-nil}
+use Rattle.std.proofs.lemmas.List.Folds.{list_any_none}
+use Rattle.std.proofs.lemmas.Option.{unwrap_or-slice_get}
+use Rattle.std.proofs.lemmas.Slice.Eq.{bytes_eq-Decides}
+use Rattle.csv.specs.Reading.{default_config, records}
+use Rattle.csv.specs.Writing.{fields_text}
+use Rattle.ballot_form.specs.Ballots.{IsPoll, IsValidBallot}
+use Rattle.ballot_form.specs.Names.{is_name}
+use Rattle.ballot_csv.specs.BallotFile.{NamedPoll, read_of, read_records}
+use Rattle.ballot_csv.specs.HeadRow.{head_fault, names_fault, names_of, without_empty_end}
+use Rattle.ballot_csv.specs.Marks.{without_marks}
+use Rattle.ballot_csv.specs.OneRecord.{is_empty}
+use Rattle.ballot_csv.specs.PlainForm.{name_at, plain_form, plain_records, record_of, run_records, runs_of, text_of_rows, with_ballot}
+use Rattle.ballot_csv.proofs.Back.{HasCells, records_back}
+use Rattle.ballot_csv.proofs.Reread.{Follows, IsNamed, Writable, rows_back, runs_back, spread}
+
+-- what stands after others is none of them
+fresh : {X : Type 0} (before : List X) (x : X) (rest : List X) → AllPairs (λ a b. a ≢ b) (before ++ x ∷ rest) → (k : ℕ) (d : X) → k < length before → get_or before k d ≢ x
+fresh before x rest apart k d within same =
+    let size = length-append before (x ∷ rest) in
+    apart k (length before) d within (omega (arith, size)) (get_or_append_left before (x ∷ rest) d k within ∙ same ∙ sym (get_or-append_seam before x rest d))
+
+-- the same list, one item on
+one_on : {X : Type 0} (before : List X) (x : X) (rest : List X) → AllPairs (λ a b. a ≢ b) (before ++ x ∷ rest) → AllPairs (λ a b. a ≢ b) ((before ++ x ∷ []) ++ rest)
+one_on {X} before x rest apart = subst (λ (xs : List X). AllPairs (λ a b. a ≢ b) xs) (sym (append_assoc before (x ∷ []) rest)) apart
+
+rest_all : {X : Type 0} (P : X → Type 0) (x : X) (xs : List X) → All P (x ∷ xs) → All P xs
+rest_all P x xs all k d within = all (suc k) d (omega arith)
+
+first_all : {X : Type 0} (P : X → Type 0) (x : X) (xs : List X) → All P (x ∷ xs) → P x
+first_all P x xs all = all 0 x (omega arith)
+
+bytes_differ : (x y : List ℕ) → (y ≡ x → ⊥) → bytes_eq x y ≡ false
+bytes_differ x y other = elim (cases_Bool (bytes_eq x y)) [
+  | inl same ↦ absurd (other (sym ((bytes_eq-Decides x y).0 same)))
+  | inr differs ↦ differs
+]
+
+-- admitted and distinct names have no fault
+no_fault : (before cells : List (List ℕ)) → All (λ name. is_name name ≡ true) cells → AllPairs (λ a b. a ≢ b) (before ++ cells) → names_fault before cells ≡ None
+no_fault before [] good apart = refl
+no_fault before (cell ∷ cells) good apart =
+    let new : list_any (bytes_eq cell) before ≡ false = list_any_none (bytes_eq cell) before (λ k d within. bytes_differ cell (get_or before k d) (fresh before cell cells apart k d within)) in
+    rw (first_all (λ name. is_name name ≡ true) cell cells good, new)
+    (no_fault (before ++ cell ∷ []) cells (rest_all (λ name. is_name name ≡ true) cell cells good) (one_on before cell cells apart))
+
+name_filled : (name : List ℕ) → is_name name ≡ true → is_empty name ≡ false
+name_filled [] good = cc good
+name_filled (b ∷ bs) good = grind (arith, nat_tests)
+
+filled_all : (cells : List (List ℕ)) → All (λ cell. is_empty cell ≡ false) cells → without_empty_end cells ≡ cells
+unfolding without_empty_end
+filled_all [] filled = refl
+filled_all (cell ∷ []) filled = rw (first_all (λ c. is_empty c ≡ false) cell [] filled) refl
+filled_all (cell ∷ next ∷ cells) filled = rw (filled_all (next ∷ cells) (rest_all (λ c. is_empty c ≡ false) cell (next ∷ cells) filled)) refl
+
+-- a test that passes first at a place
+first_at : {X : Type 0} (p : X → Bool) (xs : List X) (i : ℕ) (d : X) → i < length xs → p (get_or xs i d) ≡ true → ((k : ℕ) → k < i → p (get_or xs k d) ≡ false)
+    → prefix_len (λ x. not (p x)) xs ≡ i
+first_at p [] i d within here before = absurd (omega (arith, within))
+first_at p (x ∷ xs) zero d within here before = rw here refl
+first_at p (x ∷ xs) (suc i) d within here before =
+    let rest = first_at p xs i d (omega arith) here (λ k below. before (suc k) (omega arith)) in
+    let first = before 0 (omega arith) in
+    rw (first, rest) (omega arith)
+
+place_is : {X : Type 0} (p : X → Bool) (xs : List X) (i : ℕ) (d : X) → i < length xs → p (get_or xs i d) ≡ true → ((k : ℕ) → k < i → p (get_or xs k d) ≡ false)
+    → position p xs ≡ Some i
+place_is p xs i d within here before =
+    let inside : nat_lt i (length xs) ≡ true = grind (arith, nat_tests) in
+    rw (first_at p xs i d within here before, inside) refl
+
+-- the name of a candidate is found at its place
+named : (names : List (List ℕ)) (x : ℕ) → All (λ name. is_name name ≡ true) names → AllPairs (λ a b. a ≢ b) names → x < length names → IsNamed names x
+named names x good apart within =
+    let is : name_at names x ≡ get_or names x [] = unwrap_or-slice_get names x [] in
+    record {
+      filled = rw is (name_filled (get_or names x []) (good x [] within));
+      found = rw is (place_is (bytes_eq (get_or names x [])) names x [] within ((bytes_eq-Decides (get_or names x []) (get_or names x [])).1 refl)
+          (λ k below. bytes_differ (get_or names x []) (get_or names k []) (apart k x [] below within)));
+    }
+
+-- the candidates of a valid ballot are named, each once
+follows : (names : List (List ℕ)) (before ballot : List ℕ) → All (λ name. is_name name ≡ true) names → AllPairs (λ a b. a ≢ b) names → All (λ x. x < length names) ballot
+    → AllPairs (λ a b. a ≢ b) (before ++ ballot) → Follows names before ballot
+follows names before [] good apart below distinct = tt
+follows names before (x ∷ xs) good apart below distinct =
+    let new : list_any (λ y. y == x) before ≡ false = list_any_none (λ y. y == x) before (λ k d within. ne_eqb (get_or before k d) x (fresh before x xs distinct k d within)) in (
+      named names x good apart (first_all (λ y. y < length names) x xs below),
+      new,
+      follows names (before ++ x ∷ []) xs good apart (rest_all (λ y. y < length names) x xs below) (one_on before x xs distinct),
+    )
+
+-- each run has a ballot whose candidates are named
+abbrev RunsNamed : List (List ℕ) → List (ℕ × List ℕ) → Type 0
+RunsNamed names [] = ⊤
+RunsNamed names (run ∷ runs) = Follows names [] run.1 × RunsNamed names runs
+
+with_named : (names : List (List ℕ)) (ballot : List ℕ) (runs : List (ℕ × List ℕ)) → Follows names [] ballot → RunsNamed names runs → RunsNamed names (with_ballot ballot runs)
+with_named names ballot [] here all = (here, tt)
+with_named names ballot (run ∷ runs) here all = elim (cases_Bool (bytes_eq ballot run.1)) [
+  | inl same ↦ rw same all
+  | inr other ↦ rw other (here, all)
+]
+
+runs_named : (names ballots : List (List ℕ)) → All (Follows names []) ballots → RunsNamed names (runs_of ballots)
+runs_named names [] all = tt
+runs_named names (ballot ∷ ballots) all =
+    with_named names ballot (runs_of ballots) (first_all (Follows names []) ballot ballots all) (runs_named names ballots (rest_all (Follows names []) ballot ballots all))
+
+writable : (names : List (List ℕ)) (before : ℕ) (runs : List (ℕ × List ℕ)) → RunsNamed names runs → before + length (spread runs) ≤ 1000000 → Writable names before runs
+writable names before [] all few = tt
+writable names before (run ∷ runs) all few =
+    let size = length-append (replicate run.0 run.1) (spread runs) in
+    let count = length-replicate run.0 run.1 in
+    (omega arith, all.0, writable names (before + run.0) runs all.1 (omega arith))
+
+runs_have_cells : (names : List (List ℕ)) (runs : List (ℕ × List ℕ)) → All HasCells (map (record_of names) runs)
+runs_have_cells names [] = All-nil HasCells
+runs_have_cells names (run ∷ runs) = All-cons HasCells (record_of names run) (map (record_of names) runs) refl (runs_have_cells names runs)
+
+have_cells : (k : NamedPoll) → All HasCells (plain_records k)
+have_cells k = All-cons HasCells (codes "ballots" ∷ k.names) (run_records k.names k.poll.rows) refl (runs_have_cells k.names (runs_of k.poll.rows))
+
+-- the plain form begins with no mark
+no_mark : (names : List (List ℕ)) (rows : List (List (List ℕ)))
+    → without_marks (text_of_rows ((codes "ballots" ∷ names) ∷ rows)) ≡ text_of_rows ((codes "ballots" ∷ names) ∷ rows)
+unfolding without_marks text_of_rows fields_text
+no_mark names rows = refl
+
+head_good : (names : List (List ℕ)) → 1 ≤ length names → length names ≤ 12 → without_empty_end (codes "ballots" ∷ names) ≡ codes "ballots" ∷ names
+    → names_fault [] names ≡ None → head_fault (codes "ballots" ∷ names) ≡ None
+head_good names some few filled good =
+    let one : (length names == 0) ≡ false = grind (arith, nat_tests) in
+    let fits : nat_lt 12 (length names) ≡ false = grind (arith, nat_tests) in
+    rw (filled, one, fits) good
+
+records_read : (k : NamedPoll) → head_fault (codes "ballots" ∷ k.names) ≡ None → names_of (codes "ballots" ∷ k.names) ≡ k.names → length k.names ≡ k.poll.c
+    → Writable k.names 0 (runs_of k.poll.rows) → read_records (plain_records k) ≡ Ok k
+records_read k good same one runs = rw (good, same, rows_back k.names 2 [] (runs_of k.poll.rows) runs, runs_back k.poll.rows, one) refl
+
+ballots_follow : (names : List (List ℕ)) (c : ℕ) (rows : List (List ℕ)) → length names ≡ c → All (λ name. is_name name ≡ true) names → AllPairs (λ a b. a ≢ b) names
+    → All (IsValidBallot c) rows → All (Follows names []) rows
+ballots_follow names c rows one good apart valid k d within =
+    let ballot = get_or rows k d in
+    let is = valid k d within in
+    follows names [] ballot good apart (λ i e inside. rw one (is.below i e inside)) is.distinct
+
+-- the plain form of distinct and admitted names and a poll of theirs is read as them
+pub read_plain : (k : NamedPoll) → length k.names ≡ k.poll.c → AllPairs (λ a b. a ≢ b) k.names → All (λ name. is_name name ≡ true) k.names → IsPoll k.poll
+    → read_of (plain_form k) ≡ Ok k
+unfolding read_of
+read_plain k one apart good poll =
+    let names_filled = λ (i : ℕ) (d : List ℕ) (within : i < length k.names). name_filled (get_or k.names i d) (good i d within) in
+    let filled = filled_all (codes "ballots" ∷ k.names) (All-cons (λ c. is_empty c ≡ false) (codes "ballots") k.names refl names_filled) in
+    let none = no_fault [] k.names good apart in
+    let head = head_good k.names (omega (arith, one, poll.some)) (omega (arith, one, poll.most)) filled none in
+    let same : names_of (codes "ballots" ∷ k.names) ≡ k.names = rw filled refl in
+    let size = ap length (runs_back k.poll.rows) in
+    let runs = writable k.names 0 (runs_of k.poll.rows) (runs_named k.names k.poll.rows (ballots_follow k.names k.poll.c k.poll.rows one good apart poll.valid)) (omega (arith, size, poll.few)) in
+    ap (λ t. read_records (records default_config t)) (no_mark k.names (run_records k.names k.poll.rows))
+    ∙ ap read_records (records_back (plain_records k) (have_cells k)) ∙ records_read k head same one runs

@@ -1,0 +1,13 @@
+pub mod Back
+pub mod CellFacts
+pub mod CountFacts
+pub mod FormFacts
+pub mod GivesFacts
+pub mod GoodNames
+pub mod HeadFacts
+pub mod Law
+pub mod LeftFacts
+pub mod MarkFacts
+pub mod NameFacts
+pub mod Reread
+pub mod RunFacts

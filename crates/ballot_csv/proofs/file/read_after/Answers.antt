@@ -1,0 +1,9 @@
+use Rattle.csv.specs.Records.{fields_of}
+use Rattle.ballot_csv.proofs.GoodNames.{admitted_names, distinct_names}
+use Rattle.ballot_csv.proofs.file.read_after.Goals as goal
+
+pub invariant_of-result-clause-distinct : goal.invariant_of-result-clause-distinct
+invariant_of-result-clause-distinct c = distinct_names (fields_of c.args.head.now) c.in-Ok.names.0 c.in-Ok.ensures.good c.in-Ok.ensures.names
+
+pub invariant_of-result-clause-admitted : goal.invariant_of-result-clause-admitted
+invariant_of-result-clause-admitted c = admitted_names (fields_of c.args.head.now) c.in-Ok.names.0 c.in-Ok.ensures.good c.in-Ok.ensures.names

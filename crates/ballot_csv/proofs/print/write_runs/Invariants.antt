@@ -1,0 +1,12 @@
+use Rattle.std.proofs.Common.{◌≡◌, ◌++◌, ◌≤◌, ◌-◌, drop, length}
+use Rattle.ballot_csv.specs.PlainForm.{run_records, text_of_rows}
+use Rattle.ballot_csv.proofs.print.write_runs.Given as goal
+
+abbrev pub invariant-loop-start : goal.invariant-loop-start
+invariant-loop-start l = record {
+  rest : l.text ++ text_of_rows (run_records l.contest.names (drop l.start l.contest.roll.rows)) ≡ l.fn.text ++ text_of_rows (run_records l.contest.names l.contest.roll.rows);
+  within : l.start ≤ length l.contest.roll.rows;
+}
+
+abbrev pub decreases-loop-start : goal.decreases-loop-start
+decreases-loop-start l = length l.contest.roll.rows - l.start

@@ -1,0 +1,9 @@
+pub mod BallotFile
+pub mod Counts
+pub mod Gives
+pub mod HeadRow
+pub mod Left
+pub mod Marks
+pub mod OneRecord
+pub mod PlainForm
+pub mod Written

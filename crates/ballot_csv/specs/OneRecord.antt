@@ -1,0 +1,48 @@
+-- What a record below the head says, where the head has these names.
+use Rattle.std.specs.Prelude.{ℕ, List, [], ◌∷◌, ◌++◌, ◌+◌, ◌==◌, ◌&&◌, Bool, not, length, Option, Some, None, is_none, unwrap_or, if◌then◌else◌, fold, position, replicate, nat_lt}
+use Rattle.std.specs.List.{list_all, list_any}
+use Rattle.std.specs.Str.{bytes_eq}
+use Rattle.ballot_csv.specs.Counts.{number_of}
+use Rattle.ballot_csv.specs.declared.fault.BallotKind.{BallotKind}
+use Rattle.ballot_csv.specs.declared.fault.BallotKind.TheVariants.{BadCount, UnknownName, TooManyBallots}
+
+abbrev pub is_empty : List ℕ → Bool
+is_empty cell = length cell == 0
+
+-- the number of the candidate whose name a cell is
+abbrev pub place_of : List (List ℕ) → List ℕ → Option ℕ
+place_of names cell = position (bytes_eq cell) names
+
+abbrev pub is_unknown : List (List ℕ) → List ℕ → Bool
+is_unknown names cell = not (is_empty cell) && is_none (place_of names cell)
+
+-- a ballot with one candidate more, if it isn't on it yet
+abbrev pub with_place : List ℕ → Option ℕ → List ℕ
+with_place ballot None = ballot
+with_place ballot (Some x) = if list_any (λ y. y == x) ballot then ballot else ballot ++ x ∷ []
+
+abbrev pub with_cell : List (List ℕ) → List ℕ → List ℕ → List ℕ
+with_cell names ballot cell = if is_empty cell then ballot else with_place ballot (place_of names cell)
+
+-- the candidates that cells name, each where it stands first
+abbrev pub ballot_of : List (List ℕ) → List (List ℕ) → List ℕ
+ballot_of names cells = fold (with_cell names) [] cells
+
+abbrev pub count_fault : List (List ℕ) → ℕ → Option ℕ → List (List ℕ) → Option BallotKind
+count_fault names before None cells = Some BadCount
+count_fault names before (Some n) cells =
+    if list_any (is_unknown names) cells then Some UnknownName
+    else if nat_lt 1000000 (before + n) then Some TooManyBallots
+    else None
+
+-- what is wrong with a record that so many ballots stand before
+abbrev pub record_fault : List (List ℕ) → ℕ → List (List ℕ) → Option BallotKind
+record_fault names before [] = None
+record_fault names before (count ∷ cells) =
+    if list_all is_empty (count ∷ cells) then None else count_fault names before (number_of count) cells
+
+-- the ballots that a record adds
+abbrev pub ballots_of : List (List ℕ) → List (List ℕ) → List (List ℕ)
+ballots_of names [] = []
+ballots_of names (count ∷ cells) =
+    if list_all is_empty (count ∷ cells) then [] else replicate (unwrap_or (number_of count) 0) (ballot_of names cells)

@@ -1,0 +1,98 @@
+// Reads a ballot file: its head, and then record by record onto the roll.
+ghost use Rattle.std.specs.Prelude.{◌≡◌, ◌<◌, ◌^◌, [], ◌∷◌, length, Ok, Err, IfErr, IfOk, OnOk, MatchBool};
+ghost use Rattle.csv.specs.Records.{fields_of};
+ghost use Rattle.ballot_csv.specs.BallotFile as file;
+ghost use Rattle.ballot_csv.specs.BallotFile.{Gives, read_of};
+ghost use Rattle.ballot_csv.specs.Gives.{OrMemory};
+ghost use Rattle.ballot_csv.specs.declared.fault.BallotKind.TheVariants as BallotKind;
+
+use crate::fault::{BallotFault, BallotKind};
+use crate::head::read_head;
+use crate::names::NameIndex;
+use crate::record::add_record;
+use crate::records::Records;
+use ballot_form::{Contest, Roll};
+use csv::ByteRecord;
+use std::alloc::Global;
+
+/// The contest of a ballot file, or the first fault with the number of its record.
+#[tactic(auto, unfolding(crate::specs::BallotFile::read_of))]
+pub fn read_ballots(alloc: Global, bytes: &[u8]) -> Result<Contest, BallotFault>
+    ensures { Gives result (read_of bytes.now) }
+{
+    let mut records = Records::of(alloc, bytes);
+    let mut head = ByteRecord::new(alloc);
+    match records.read(&mut head) {
+        Ok(true) => read_after(alloc, &head, records),
+        Ok(false) => Err(BallotFault {
+            kind: BallotKind::Empty,
+            at: 1,
+        }),
+        Err(_) => Err(no_memory()),
+    }
+}
+
+/// Reads the records after the head.
+fn read_after(
+    alloc: Global,
+    head: &ByteRecord,
+    mut records: Records,
+) -> Result<Contest, BallotFault>
+    requires few { length records < 2 ^ 63 }
+    ensures { Gives result (file.read_records (fields_of head.now ∷ records.entry)) }
+{
+    let (names, index) = match read_head(alloc, head) {
+        Ok(names) => names,
+        Err(kind) => return Err(BallotFault { kind, at: 1 }),
+    };
+    let mut roll = Roll::new(alloc, names.len() as u8);
+    match read_rows(alloc, &index, &mut records, &mut roll) {
+        Ok(()) => Ok(Contest { names, roll }),
+        Err(fault) => Err(fault),
+    }
+}
+
+/// Reads the records below the head onto the roll.
+fn read_rows(
+    alloc: Global,
+    names: &NameIndex,
+    records: &mut Records,
+    roll: &mut Roll,
+) -> Result<(), BallotFault>
+    requires names { length names.now ≡ roll.old.c }
+    requires few { length records.old < 2 ^ 63 }
+    ensures rows { OnOk result (file.read_rows names.now 2 roll.old.rows records.old ≡ Ok roll.new.rows) }
+    ensures names { OnOk result (roll.new.c ≡ roll.old.c) }
+    ensures err { IfErr result (λ e. OrMemory e.kind (file.read_rows names.now 2 roll.old.rows records.old ≡ Err e)) }
+{
+    let mut row = ByteRecord::new(alloc);
+    let mut at = 2u64;
+    while has_next(records, &mut row)? {
+        if let Err(kind) = add_record(alloc, names, &row, roll) {
+            return Err(BallotFault { kind, at });
+        }
+        at += 1;
+    }
+    Ok(())
+}
+
+/// Reads the next record, and tells whether there was one.
+fn has_next(records: &mut Records, row: &mut ByteRecord) -> Result<bool, BallotFault>
+    ensures found { IfOk result (λ found. MatchBool found (records.old ≡ fields_of row.new ∷ records.new) (records.old ≡ [])) }
+    ensures err { IfErr result (λ e. e.kind ≡ BallotKind.Memory) }
+{
+    match records.read(row) {
+        Ok(found) => Ok(found),
+        Err(_) => Err(no_memory()),
+    }
+}
+
+/// Want of memory.
+fn no_memory() -> BallotFault
+    ensures { result.kind ≡ BallotKind.Memory }
+{
+    BallotFault {
+        kind: BallotKind::Memory,
+        at: 0,
+    }
+}

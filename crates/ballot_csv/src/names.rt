@@ -1,0 +1,58 @@
+// The names of the candidates, to be found.
+ghost use Rattle.std.specs.Prelude.{◌≡◌, [], ◌++◌, ◌∷◌, length, IfOk, IfSome, OnErr, MatchBool, true, false, ◌<◌, ◌≤◌};
+ghost use Rattle.std.specs.List.{list_any};
+ghost use Rattle.std.specs.Str.{bytes_eq};
+ghost use Rattle.ballot_csv.specs.OneRecord.{place_of};
+
+use indexmap::IndexSet;
+use mov_base::Memory;
+use std::alloc::Global;
+use std::marker::Model;
+
+/// The names of the candidates, found by their bytes.
+#[derive(Drop)]
+pub(crate) struct NameIndex<'a> {
+    names: IndexSet<&'a [u8]>,
+}
+
+impl<'a> Model for NameIndex<'a> {
+    ghost use Rattle.std.specs.Prelude.{ℕ, List, map, length, ◌≤◌};
+
+    ghost Value = { List (List ℕ) };
+
+    ghost view = { λ r. map (λ n. n.now) r.names.keys };
+
+    ghost invariant = { λ r. length r.names.keys ≤ 12 };
+}
+
+impl<'a> NameIndex<'a> {
+    /// No names.
+    pub(crate) fn new(alloc: Global) -> NameIndex<'a>
+        ensures { result ≡ [] }
+    {
+        NameIndex {
+            names: IndexSet::new(alloc),
+        }
+    }
+
+    /// The number of the candidate with this name.
+    #[tactic(auto, using(crate::proofs::NameFacts::position_of_map))]
+    pub(crate) fn place_of(&self, name: &[u8]) -> Option<u8>
+        ensures place { result ≡ place_of self.now name.now }
+        ensures within { IfSome result (λ i. i < length self.now) }
+    {
+        match self.names.get_index_of(name) {
+            Some(place) => Some(place as u8),
+            None => None,
+        }
+    }
+
+    /// Adds a name at the end, and tells whether it wasn't there.
+    #[tactic(auto, using(crate::proofs::NameFacts::any_of_map))]
+    pub(crate) fn add(&mut self, name: &'a [u8]) -> Result<bool, Memory>
+        requires { length self.old < 12 }
+        ensures added { IfOk result (λ added. MatchBool added ((list_any (bytes_eq name.now) self.old ≡ false) × (self.new ≡ self.old ++ name.now ∷ [])) (list_any (bytes_eq name.now) self.old ≡ true)) }
+    {
+        Ok(self.names.insert(name)?)
+    }
+}

@@ -1,0 +1,91 @@
+// Reads a record below the head.
+ghost use Rattle.std.specs.Prelude.{◌≡◌, ◌+◌, ◌++◌, ◌<◌, ◌≤◌, ◌∷◌, [], All, length, drop, fold, None, Some, OnOk, IfOk, IfErr, false, true};
+ghost use Rattle.std.specs.List.{list_all, list_any};
+ghost use Rattle.csv.specs.Records.{fields_of};
+ghost use Rattle.ballot_csv.specs.OneRecord.{ballot_of, ballots_of, is_empty, is_unknown, record_fault, with_cell};
+ghost use Rattle.ballot_csv.specs.Gives.{OrMemory};
+ghost use Rattle.ballot_csv.specs.declared.fault.BallotKind.TheVariants as BallotKind;
+
+use crate::cells::cell_at;
+use crate::count::read_count;
+use crate::fault::BallotKind;
+use crate::names::NameIndex;
+use ballot_form::{PushFault, Ranking, Roll};
+use csv::ByteRecord;
+use std::alloc::Global;
+
+/// Adds the ballots of a record below the head.
+pub(crate) fn add_record(
+    alloc: Global,
+    names: &NameIndex,
+    row: &ByteRecord,
+    roll: &mut Roll,
+) -> Result<(), BallotKind>
+    requires { length names.now ≡ roll.old.c }
+    ensures fault { OnOk result (record_fault names.now (length roll.old.rows) (fields_of row.now) ≡ None) }
+    ensures rows { OnOk result (roll.new ≡ record roll.old { rows = roll.old.rows ++ ballots_of names.now (fields_of row.now) }) }
+    ensures err { IfErr result (λ kind. OrMemory kind (record_fault names.now (length roll.old.rows) (fields_of row.now) ≡ Some kind)) }
+{
+    if is_passed(row) {
+        return Ok(());
+    }
+    let Some(count) = read_count(cell_at(row, 0)) else {
+        return Err(BallotKind::BadCount);
+    };
+    let ballot = read_ballot(alloc, names, row)?;
+    match roll.push_times(ballot.as_slice(), count) {
+        Ok(()) => Ok(()),
+        Err(PushFault::TooMany) => Err(BallotKind::TooManyBallots),
+        Err(PushFault::Memory) => Err(BallotKind::Memory),
+    }
+}
+
+/// Whether all cells of a record are empty.
+#[tactic(auto, using(crate::proofs::CellFacts::all_until, crate::proofs::CellFacts::all_stops_at))]
+fn is_passed(row: &ByteRecord) -> bool
+    ensures { result ≡ list_all is_empty (fields_of row.now) }
+{
+    for i in 0..row.len() {
+        if !cell_at(row, i).is_empty() {
+            return false;
+        }
+    }
+    true
+}
+
+/// The ballot that the cells after the count name.
+#[tactic(auto, using(crate::proofs::CellFacts::rest_more))]
+fn read_ballot(alloc: Global, names: &NameIndex, row: &ByteRecord) -> Result<Ranking, BallotKind>
+    ensures ballot { IfOk result (λ ballot. ballot ≡ ballot_of names.now (drop 1 (fields_of row.now))) }
+    ensures below { IfOk result (λ ballot. All (λ x. x < length names.now) ballot) }
+    ensures known { OnOk result (list_any (is_unknown names.now) (drop 1 (fields_of row.now)) ≡ false) }
+    ensures err { IfErr result (λ kind. OrMemory kind ((kind ≡ BallotKind.UnknownName) × (list_any (is_unknown names.now) (drop 1 (fields_of row.now)) ≡ true))) }
+{
+    let mut ballot = Ranking::new(alloc);
+    for i in 1..row.len() {
+        if let Err(kind) = add_cell(names, cell_at(row, i), &mut ballot) {
+            return Err(kind);
+        }
+    }
+    Ok(ballot)
+}
+
+/// Adds the candidate that a cell names, if it isn't on the ballot yet.
+fn add_cell(names: &NameIndex, cell: &[u8], ballot: &mut Ranking) -> Result<(), BallotKind>
+    requires { All (λ x. x < length names.now) ballot.old }
+    ensures ballot { OnOk result (ballot.new ≡ with_cell names.now ballot.old cell.now) }
+    ensures below { OnOk result (All (λ x. x < length names.now) ballot.new) }
+    ensures known { OnOk result (is_unknown names.now cell.now ≡ false) }
+    ensures err { IfErr result (λ kind. OrMemory kind ((kind ≡ BallotKind.UnknownName) × (is_unknown names.now cell.now ≡ true))) }
+{
+    if cell.is_empty() {
+        return Ok(());
+    }
+    let Some(candidate) = names.place_of(cell) else {
+        return Err(BallotKind::UnknownName);
+    };
+    if !ballot.as_slice().contains(&candidate) {
+        ballot.push(candidate)?;
+    }
+    Ok(())
+}

@@ -1,0 +1,125 @@
+-- What one run leaves.
+use Rattle.std.specs.Prelude.{◌≡◌, ◌⊎◌, ℕ, List, ◌++◌, codes, decimal, Option, Result, Ok, Err}
+use Rattle.mov_edge.specs.Loads.{TookFirst}
+use Rattle.mov_edge.specs.Outside.{Named, Place, Took, Rose}
+use Rattle.ballot_csv.specs.declared.fault.BallotKind.{BallotKind}
+use Rattle.ballot_csv.specs.declared.fault.BallotKind.TheVariants as kind
+use Rattle.mov_run.specs.Allowed.{Allowed, Answer, Source}
+use Rattle.mov_run.specs.declared.jobs.WordFault.{WordFault}
+use Rattle.mov_run.specs.declared.jobs.WordFault.TheVariants as word
+use Rattle.mov_run.specs.declared.runs.Output.{Output}
+use Rattle.mov_run.specs.declared.runs.Status.{Status}
+use Rattle.mov_run.specs.declared.runs.Status.TheVariants as status
+use Rattle.mov_run.specs.declared.stops.Stop.{Stop}
+use Rattle.mov_run.specs.declared.stops.Stop.TheVariants.{Words, Ballots, Long, Read, Memory}
+
+abbrev pub word_line_of : WordFault → List ℕ
+word_line_of word.NoCommand = codes "mov: words: no command\n"
+word_line_of word.UnknownCommand = codes "mov: words: unknown command\n"
+word_line_of word.Line = codes "mov: words: wrong arguments\n"
+word_line_of word.UnknownRule = codes "mov: words: unknown rule\n"
+word_line_of word.Memory = codes "mov: out of memory\n"
+
+abbrev pub kind_text : BallotKind → List ℕ
+kind_text kind.Empty = codes "empty"
+kind_text kind.BadHead = codes "bad head"
+kind_text kind.NoCandidates = codes "no candidates"
+kind_text kind.TooManyCandidates = codes "too many candidates"
+kind_text kind.BadName = codes "bad name"
+kind_text kind.NameTwice = codes "name twice"
+kind_text kind.BadCount = codes "bad count"
+kind_text kind.UnknownName = codes "unknown name"
+kind_text kind.TooManyBallots = codes "too many ballots"
+kind_text kind.Memory = codes "out of memory"
+
+-- the line that says why a run stopped
+abbrev pub line_of : Stop → List ℕ
+line_of (Words fault) = word_line_of fault
+line_of (Ballots fault) = codes "mov: ballots: record " ++ (decimal fault.at ++ (codes ": " ++ (kind_text fault.kind ++ codes "\n")))
+line_of Long = codes "mov: ballots: longer than 67108864 bytes\n"
+line_of (Read name) = codes "mov: read failed: " ++ (name ++ codes "\n")
+line_of Memory = codes "mov: out of memory\n"
+
+abbrev pub status_of : Stop → Status
+status_of (Words fault) = status.Words
+status_of (Ballots fault) = status.Ballots
+status_of Long = status.Ballots
+status_of (Read name) = status.Read
+status_of Memory = status.Memory
+
+-- the number that the program ends with
+abbrev pub number_of : Status → ℕ
+number_of status.Done = 0
+number_of status.Bounds = 1
+number_of status.Refused = 2
+number_of status.Words = 3
+number_of status.Ballots = 4
+number_of status.Certificate = 5
+number_of status.Read = 6
+number_of status.Write = 7
+number_of status.Memory = 8
+
+-- a sink took the line, or a first part of it where a fault came
+abbrev pub Says : Option (List ℕ) → Option (List ℕ) → ℕ → ℕ → List ℕ → Type 0
+Says old new before now line = (Took old new line × (now ≡ before)) ⊎ (TookFirst old new line × Rose before now)
+
+-- a piece was written whole, and no fault came; or a first part of it, and a fault came
+abbrev pub WritesAll : {T E : Type 0} → Option (List ℕ) → Option (List ℕ) → ℕ → ℕ → Result T E → List ℕ → Type 0
+WritesAll old new before now (Ok x) piece = Took old new piece × (now ≡ before)
+WritesAll old new before now (Err e) piece = TookFirst old new piece × Rose before now
+
+-- a sink at one moment
+pub record Drain : Type 0 where
+  pub taken : Option (List ℕ)
+  pub faults : ℕ
+
+-- what is seen of the outside at one moment
+pub record Outside : Type 0 where
+  pub told : Option (List Named)
+  pub at : Option Place
+  pub faults : ℕ
+  pub out : Drain
+  pub err : Drain
+
+-- the line went to the error sink
+abbrev pub SaysLine : Outside → Outside → List ℕ → Type 0
+SaysLine old new line = Says old.err.taken new.err.taken old.err.faults new.err.faults line
+
+-- the whole text went out, and nothing else happened
+pub record Wrote (old new : Outside) (text : List ℕ) : Type 0 where
+  pub whole : Took old.out.taken new.out.taken text
+  pub quiet : new.err ≡ old.err
+  pub no_fault : (new.faults ≡ old.faults) × (new.out.faults ≡ old.out.faults)
+
+-- a fault came while the text was written
+pub record CutShort (old new : Outside) (text : List ℕ) : Type 0 where
+  pub part : TookFirst old.out.taken new.out.taken text
+  pub rose : Rose old.out.faults new.out.faults
+  pub line : SaysLine old new (codes "mov: write failed\n")
+  pub no_fault : new.faults ≡ old.faults
+
+-- the run stopped before the writing
+pub record Stopped (old new : Outside) (stop : Stop) : Type 0 where
+  pub silent : new.out ≡ old.out
+  pub line : SaysLine old new (line_of stop)
+
+-- an answer is delivered, with this status
+abbrev pub Delivers : Outside → Outside → Answer → Status → Type 0
+Delivers old new (Ok output) s = ((s ≡ output.ends) × Wrote old new output.text) ⊎ ((s ≡ status.Write) × CutShort old new output.text)
+Delivers old new (Err stop) s = (s ≡ status_of stop) × Stopped old new stop
+
+abbrev pub source_of : Outside → Outside → Source
+source_of old new = record { told = old.told; at = new.at; before = old.faults; now = new.faults }
+
+-- one run: an answer that the words and the files allow, delivered
+pub record Ran (old new : Outside) (words : List (List ℕ)) (s : Status) : Type 0 where
+  pub answer : Answer
+  pub allowed : Allowed (source_of old new) words answer
+  pub delivered : Delivers old new answer s
+  pub told : new.told ≡ old.told
+
+-- a text was sent, or cut short
+abbrev pub Sent : Output → Drain → Drain → Drain → Drain → Status → Type 0
+Sent output out out' err err' s =
+    ((s ≡ output.ends) × Took out.taken out'.taken output.text × (out'.faults ≡ out.faults) × (err' ≡ err))
+    ⊎ ((s ≡ status.Write) × TookFirst out.taken out'.taken output.text × Rose out.faults out'.faults × Says err.taken err'.taken err.faults err'.faults (codes "mov: write failed\n"))

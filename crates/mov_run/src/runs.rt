@@ -1,0 +1,213 @@
+// The top call.
+ghost use Rattle.std.specs.Prelude.{◌≡◌, ◌≢◌, ◌⊎◌, ℕ, List, Option, map, string_bytes, IfOk, Ok, Err};
+ghost use Rattle.ballot_csv.specs.declared.fault.BallotKind.TheVariants as kind;
+ghost use Rattle.mov_run.specs.Allowed.{Allowed, AnswersOrMemory, Loads, LoadsContest};
+ghost use Rattle.mov_run.specs.Ran.{Ran, Sent, number_of, status_of};
+ghost use Rattle.mov_run.specs.Promised.{Promised};
+
+use crate::certificate::Cert;
+use crate::jobs::{Job, WordFault, parse};
+use crate::margins::margin;
+use crate::stops::{Stop, say, say_line};
+use crate::text::print_cert;
+use ballot_csv::{BallotFault, BallotKind, print_ballots, read_ballots};
+use ballot_form::{Contest, Rule, Text};
+use mov_base::{List, Memory};
+use mov_edge::{Files, LoadFault, Sink, read_whole, write_whole};
+use std::alloc::Global;
+
+/// How a run ended.
+#[derive(Clone, Copy, Debug, Drop)]
+pub enum Status {
+    /// The text of the command was written whole.
+    Done,
+    /// The text was written whole, and a claim in it is a pair of bounds.
+    Bounds,
+    /// A refusal was written whole.
+    Refused,
+    /// The words are outside the grammar of the command.
+    Words,
+    /// The ballot file has a fault or is too long.
+    Ballots,
+    /// The certificate has a fault or is too long.
+    Certificate,
+    /// A file could not be read.
+    Read,
+    /// The text could not be written whole.
+    Write,
+    /// There was no memory.
+    Memory,
+}
+
+impl Status {
+    /// The number that the program ends with.
+    pub fn number(self) -> u8
+        ensures { result ≡ number_of self }
+    {
+        match self {
+            Status::Done => 0,
+            Status::Bounds => 1,
+            Status::Refused => 2,
+            Status::Words => 3,
+            Status::Ballots => 4,
+            Status::Certificate => 5,
+            Status::Read => 6,
+            Status::Write => 7,
+            Status::Memory => 8,
+        }
+    }
+}
+
+/// A text, and the status of a run that wrote it whole.
+#[derive(Debug, Drop)]
+pub struct Output {
+    pub ends: Status,
+    pub text: List<u8>,
+}
+
+/// The most bytes of a ballot file.
+const BALLOT_LIMIT: u64 = 67_108_864;
+
+/// Does what the words ask for. The words don't contain the name of the program.
+pub fn run<F: Files, O: Sink, E: Sink>(
+    alloc: Global,
+    words: &[String],
+    files: &mut F,
+    out: &mut O,
+    err: &mut E,
+) -> Status
+    ensures { Promised
+        (record { told = F.told files.old; at = F.at files.old; faults = F.faults files.old; out = record { taken = O.taken out.old; faults = O.faults out.old }; err = record { taken = E.taken err.old; faults = E.faults err.old } })
+        (record { told = F.told files.new; at = F.at files.new; faults = F.faults files.new; out = record { taken = O.taken out.new; faults = O.faults out.new }; err = record { taken = E.taken err.new; faults = E.faults err.new } })
+        (map string_bytes words.now) result }
+{
+    work(alloc, words, files, out, err)
+}
+
+/// The work of a run.
+fn work<F: Files, O: Sink, E: Sink>(
+    alloc: Global,
+    words: &[String],
+    files: &mut F,
+    out: &mut O,
+    err: &mut E,
+) -> Status
+    ensures { Ran
+        (record { told = F.told files.old; at = F.at files.old; faults = F.faults files.old; out = record { taken = O.taken out.old; faults = O.faults out.old }; err = record { taken = E.taken err.old; faults = E.faults err.old } })
+        (record { told = F.told files.new; at = F.at files.new; faults = F.faults files.new; out = record { taken = O.taken out.new; faults = O.faults out.new }; err = record { taken = E.taken err.new; faults = E.faults err.new } })
+        (map string_bytes words.now) result }
+{
+    match answer(alloc, words, files) {
+        Ok(output) => deliver(&output, out, err),
+        Err(stop) => {
+            say(err, &stop);
+            ending(&stop)
+        }
+    }
+}
+
+/// The status of a run that stopped.
+fn ending(stop: &Stop) -> Status
+    ensures { result ≡ status_of stop.now }
+{
+    match stop {
+        Stop::Words(_) => Status::Words,
+        Stop::Ballots(_) | Stop::Long => Status::Ballots,
+        Stop::Read { .. } => Status::Read,
+        Stop::Memory => Status::Memory,
+    }
+}
+
+/// Writes the text.
+fn deliver<O: Sink, E: Sink>(output: &Output, out: &mut O, err: &mut E) -> Status
+    ensures { Sent output.now (record { taken = O.taken out.old; faults = O.faults out.old }) (record { taken = O.taken out.new; faults = O.faults out.new })
+        (record { taken = E.taken err.old; faults = E.faults err.old }) (record { taken = E.taken err.new; faults = E.faults err.new }) result }
+{
+    match write_whole(out, output.text.as_slice()) {
+        Ok(()) => output.ends,
+        Err(_) => {
+            say_line(err, b"mov: write failed\n");
+            Status::Write
+        }
+    }
+}
+
+/// The answer to the words.
+fn answer<F: Files>(alloc: Global, words: &[String], files: &mut F) -> Result<Output, Stop>
+    ensures allowed { Allowed (record { told = F.told files.old; at = F.at files.new; before = F.faults files.old; now = F.faults files.new }) (map string_bytes words.now) result }
+    ensures told { F.told files.new ≡ F.told files.old }
+    ensures kept { IfOk result (λ _. F.faults files.new ≡ F.faults files.old) }
+{
+    match parse(alloc, words) {
+        Ok(Job::Margin { rule: _, file }) => margin_answer(alloc, &file, files),
+        Ok(Job::Show { file }) => show_answer(alloc, &file, files),
+        Err(WordFault::Memory) => Err(Stop::Memory),
+        Err(fault) => Err(Stop::Words(fault)),
+    }
+}
+
+/// The certificate of the contest in a ballot file.
+fn margin_answer<F: Files>(alloc: Global, file: &Text, files: &mut F) -> Result<Output, Stop>
+    ensures answers { AnswersOrMemory (record { told = F.told files.old; at = F.at files.new; before = F.faults files.old; now = F.faults files.new }) (Job.Margin Rule.Plurality file.now) result }
+    ensures told { F.told files.new ≡ F.told files.old }
+    ensures kept { IfOk result (λ _. F.faults files.new ≡ F.faults files.old) }
+{
+    let contest = load_contest(alloc, files, file)?;
+    let cert = margin(alloc, &contest, Rule::Plurality)?;
+    Ok(Output {
+        ends: Status::Done,
+        text: print_cert(alloc, &cert)?,
+    })
+}
+
+/// The plain form of a ballot file.
+fn show_answer<F: Files>(alloc: Global, file: &Text, files: &mut F) -> Result<Output, Stop>
+    ensures answers { AnswersOrMemory (record { told = F.told files.old; at = F.at files.new; before = F.faults files.old; now = F.faults files.new }) (Job.Show file.now) result }
+    ensures told { F.told files.new ≡ F.told files.old }
+    ensures kept { IfOk result (λ _. F.faults files.new ≡ F.faults files.old) }
+{
+    let contest = load_contest(alloc, files, file)?;
+    Ok(Output {
+        ends: Status::Done,
+        text: List::from_vec(print_ballots(alloc, &contest)?),
+    })
+}
+
+/// Loads the contest of a ballot file.
+fn load_contest<F: Files>(alloc: Global, files: &mut F, name: &Text) -> Result<Contest, Stop>
+    ensures loads { LoadsContest (record { told = F.told files.old; at = F.at files.new; before = F.faults files.old; now = F.faults files.new }) name.now result }
+    ensures told { F.told files.new ≡ F.told files.old }
+    ensures kept { IfOk result (λ _. F.faults files.new ≡ F.faults files.old) }
+{
+    let bytes = load(alloc, files, name)?;
+    match read_ballots(alloc, bytes.as_slice()) {
+        Ok(contest) => Ok(contest),
+        Err(fault) => Err(ballot_stop(fault)),
+    }
+}
+
+/// Why a run stops at a fault of a ballot file.
+fn ballot_stop(fault: BallotFault) -> Stop
+    ensures { ((fault.kind ≡ kind.Memory) × (result ≡ Stop.Memory)) ⊎ ((fault.kind ≢ kind.Memory) × (result ≡ Stop.Ballots fault)) }
+{
+    match fault.kind {
+        BallotKind::Memory => Stop::Memory,
+        _ => Stop::Ballots(fault),
+    }
+}
+
+/// Loads a ballot file.
+fn load<F: Files>(alloc: Global, files: &mut F, name: &Text) -> Result<List<u8>, Stop>
+    ensures loads { Loads (record { told = F.told files.old; at = F.at files.new; before = F.faults files.old; now = F.faults files.new }) name.now 67108864 result }
+    ensures told { F.told files.new ≡ F.told files.old }
+    ensures kept { IfOk result (λ _. F.faults files.new ≡ F.faults files.old) }
+{
+    match read_whole(alloc, files, name.as_str(), BALLOT_LIMIT) {
+        Ok(bytes) => Ok(List::from_vec(bytes)),
+        Err(LoadFault::Failed) => Err(Stop::Read {
+            name: Text::of(alloc, name.as_str())?,
+        }),
+        Err(LoadFault::TooLong) => Err(Stop::Long),
+        Err(LoadFault::Memory) => Err(Stop::Memory),
+    }
+}

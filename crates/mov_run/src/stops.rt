@@ -1,0 +1,134 @@
+// Why a run stops before its text is whole, and the line that says so.
+ghost use Rattle.std.specs.Prelude.{◌≡◌, ◌⊎◌, ◌++◌, codes};
+ghost use Rattle.mov_run.specs.Ran.{Says, WritesAll, kind_text, line_of, word_line_of};
+ghost use Rattle.mov_run.specs.declared.stops.Stop.TheVariants.{Memory};
+
+use crate::jobs::WordFault;
+use ballot_csv::{BallotFault, BallotKind};
+use ballot_form::Text;
+use itoa::Buffer;
+use mov_base::Memory;
+use mov_edge::{Failed, Sink, write_whole};
+
+/// Why a run ends before its text is whole.
+#[derive(Debug, Drop)]
+pub enum Stop {
+    /// The words are at fault.
+    Words(WordFault),
+    /// The ballot file is at fault.
+    Ballots(BallotFault),
+    /// The ballot file is too long.
+    Long,
+    /// The file of this name could not be read.
+    Read { name: Text },
+    /// There was no memory.
+    Memory,
+}
+
+impl From<Memory> for Stop {
+    ghost from_gives = { λ _ stop. stop ≡ Memory };
+
+    fn from(_: Memory) -> Stop {
+        Stop::Memory
+    }
+}
+
+/// Writes the line, as far as the sink takes it. It takes no memory.
+pub(crate) fn say<E: Sink>(err: &mut E, stop: &Stop)
+    ensures { Says (E.taken err.old) (E.taken err.new) (E.faults err.old) (E.faults err.new) (line_of stop.now) }
+{
+    match stop {
+        Stop::Words(fault) => say_line(err, word_line(*fault).as_bytes()),
+        Stop::Ballots(fault) => say_record(err, fault),
+        Stop::Long => say_line(err, b"mov: ballots: longer than 67108864 bytes\n"),
+        Stop::Read { name } => {
+            let _ = write_three(err, b"mov: read failed: ", name.as_str().as_bytes(), b"\n");
+        }
+        Stop::Memory => say_line(err, b"mov: out of memory\n"),
+    }
+}
+
+/// The line of a fault in the words.
+fn word_line(fault: WordFault) -> &'static str
+    ensures { result.now ≡ word_line_of fault }
+{
+    match fault {
+        WordFault::NoCommand => "mov: words: no command\n",
+        WordFault::UnknownCommand => "mov: words: unknown command\n",
+        WordFault::Line => "mov: words: wrong arguments\n",
+        WordFault::UnknownRule => "mov: words: unknown rule\n",
+        WordFault::Memory => "mov: out of memory\n",
+    }
+}
+
+/// The words for a fault of a ballot file.
+fn kind_words(kind: &BallotKind) -> &'static str
+    ensures { result.now ≡ kind_text kind.now }
+{
+    match kind {
+        BallotKind::Empty => "empty",
+        BallotKind::BadHead => "bad head",
+        BallotKind::NoCandidates => "no candidates",
+        BallotKind::TooManyCandidates => "too many candidates",
+        BallotKind::BadName => "bad name",
+        BallotKind::NameTwice => "name twice",
+        BallotKind::BadCount => "bad count",
+        BallotKind::UnknownName => "unknown name",
+        BallotKind::TooManyBallots => "too many ballots",
+        BallotKind::Memory => "out of memory",
+    }
+}
+
+/// Writes one line.
+pub(crate) fn say_line<E: Sink>(err: &mut E, line: &[u8])
+    ensures { Says (E.taken err.old) (E.taken err.new) (E.faults err.old) (E.faults err.new) line.now }
+{
+    let _ = write_whole(err, line);
+}
+
+/// Writes the line of a fault in a ballot file.
+fn say_record<E: Sink>(err: &mut E, fault: &BallotFault)
+    ensures { Says (E.taken err.old) (E.taken err.new) (E.faults err.old) (E.faults err.new) (line_of (Stop.Ballots fault.now)) }
+{
+    let mut buffer = Buffer::new();
+    let number = buffer.format(fault.at).as_bytes();
+    let words = kind_words(&fault.kind).as_bytes();
+    let _ = write_five(err, b"mov: ballots: record ", number, b": ", words, b"\n");
+}
+
+/// Writes five pieces, one after another.
+fn write_five<E: Sink>(
+    err: &mut E,
+    first: &[u8],
+    second: &[u8],
+    third: &[u8],
+    fourth: &[u8],
+    fifth: &[u8],
+) -> Result<(), Failed>
+    ensures { WritesAll (E.taken err.old) (E.taken err.new) (E.faults err.old) (E.faults err.new) result (first.now ++ (second.now ++ (third.now ++ (fourth.now ++ fifth.now)))) }
+{
+    write_piece(err, first)?;
+    write_piece(err, second)?;
+    write_three(err, third, fourth, fifth)
+}
+
+/// Writes three pieces, one after another.
+fn write_three<E: Sink>(
+    err: &mut E,
+    first: &[u8],
+    second: &[u8],
+    third: &[u8],
+) -> Result<(), Failed>
+    ensures { WritesAll (E.taken err.old) (E.taken err.new) (E.faults err.old) (E.faults err.new) result (first.now ++ (second.now ++ third.now)) }
+{
+    write_piece(err, first)?;
+    write_piece(err, second)?;
+    write_piece(err, third)
+}
+
+/// Writes one piece.
+fn write_piece<E: Sink>(err: &mut E, piece: &[u8]) -> Result<(), Failed>
+    ensures { WritesAll (E.taken err.old) (E.taken err.new) (E.faults err.old) (E.faults err.new) result piece.now }
+{
+    write_whole(err, piece)
+}
