@@ -17,3 +17,6 @@ pub use margins::margin;
 pub use runs::{Output, Status, run};
 pub use stops::Stop;
 pub use text::print_cert;
+
+#[cfg(test)]
+mod tests;
