@@ -1,15 +1,14 @@
 -- From the scores to what the certificate promises.
-use Rattle.std.proofs.Common.{ℕ, zero, suc, refl, List, ◌≡◌, ◌≢◌, ◌<◌, ◌≤◌, ◌+◌, ◌*◌, ◌-◌, ◌∙◌, sym, ap, subst, length, arith, get_or}
+use Rattle.std.proofs.Common.{ℕ, zero, suc, refl, List, ◌≡◌, ◌<◌, ◌≤◌, ◌*◌, ◌-◌, sym, subst, arith}
 use Rattle.std.specs.Prelude.{slice_index}
 use Rattle.ballot_form.specs.Ballots.{Poll}
 use Rattle.ballot_form.specs.Scores.{plurality_points, score_of}
 use Rattle.score_count.specs.Winners.{AreScores}
 use Rattle.goal_rows.specs.Outcomes.{IsLowestWithGreatest}
-use Rattle.goal_rows.specs.Pairs.{first_led, IsNearest, IsPluralityMargin, PluralityReaches, deficit_of, points_for}
+use Rattle.goal_rows.specs.Pairs.{first_led, IsNearest, deficit_of, points_for}
 use Rattle.goal_rows.proofs.Nearest.{alone_unturnable, margin_of_chosen, reaches_twice, twice_reaches}
 use Rattle.mov_run.specs.Certificates.{IsFound}
-use Rattle.mov_run.specs.Nearest.{IsCloserUpTo, IsHalfUp, IsNearestByScores}
-use Rattle.mov_run.specs.declared.certificate.Found.{Found}
+use Rattle.mov_run.specs.Nearest.{IsHalfUp, IsNearestByScores}
 use Rattle.mov_run.specs.declared.certificate.Found.TheVariants.{Fixed, Margin}
 
 pub alone_found : (p : Poll) (x : ℕ) → p.c ≡ 1 → IsLowestWithGreatest plurality_points p x → IsFound p x Fixed

@@ -1,7 +1,7 @@
 -- One more challenger is looked at.
-use Rattle.std.proofs.Common.{ℕ, List, ◌≡◌, ◌≢◌, ◌<◌, ◌≤◌, ◌+◌, ◌*◌, ◌-◌, length, subst, sym, arith, inl, inr, ◌⊎◌}
+use Rattle.std.proofs.Common.{ℕ, List, ◌≡◌, ◌≢◌, ◌<◌, ◌≤◌, ◌+◌, ◌-◌, length, subst, arith, inl, inr}
 use Rattle.std.specs.Prelude.{slice_index}
-use Rattle.std.proofs.lemmas.Bool.{cases_lt, cases_eq}
+use Rattle.std.proofs.lemmas.Bool.{cases_lt}
 use Rattle.mov_run.specs.Nearest.{IsCloserUpTo, IsHalfUp}
 
 half_one : (d k m : ℕ) → IsHalfUp d k → IsHalfUp d m → k ≤ m

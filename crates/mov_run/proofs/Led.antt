@@ -1,5 +1,5 @@
 -- One more ballot on the way to the first that a candidate leads.
-use Rattle.std.proofs.Common.{ℕ, zero, suc, Bool, true, false, List, [], ◌∷◌, ◌++◌, ◌≡◌, ◌<◌, ◌≤◌, ◌+◌, ◌-◌, ◌∙◌, refl, sym, ap, length, get_or, drop, drop-cons, append_assoc, append-nil, length-append, arith}
+use Rattle.std.proofs.Common.{ℕ, zero, suc, true, false, List, [], ◌∷◌, ◌++◌, ◌≡◌, ◌<◌, ◌≤◌, ◌+◌, ◌-◌, ◌∙◌, refl, sym, ap, length, get_or, drop, drop-cons, append_assoc, append-nil, length-append, arith}
 use Rattle.std.proofs.lemmas.List.{drop_all}
 use Rattle.ballot_form.specs.Scores.{is_first}
 use Rattle.goal_rows.specs.Pairs.{first_led}

@@ -1,5 +1,5 @@
 -- Lines in pieces.
-use Rattle.std.proofs.Common.{ℕ, List, ◌++◌, ◌≡◌, ◌⊎◌, ◌∙◌, Option, inl, inr}
+use Rattle.std.proofs.Common.{ℕ, List, ◌++◌, ◌≡◌, ◌∙◌, Option, inl, inr}
 use Rattle.std.specs.Prelude.{Result, Ok, Err, OnOk, OnErr, IsErr}
 use Rattle.mov_edge.specs.Outside.{Counts, Rose, Took}
 use Rattle.mov_edge.specs.Loads.{TookFirst}

@@ -1,8 +1,7 @@
 -- From what a run leaves to what it promises.
 use Rattle.std.proofs.Common.{ℕ, List, ◌≡◌, ◌≤◌, ◌<◌, ◌⊎◌, ◌∙◌, length, Some, None, Option, refl, sym, ap, subst, inl, inr, arith}
-use Rattle.std.specs.Prelude.{Result, Ok, Err, codes}
-use Rattle.mov_edge.specs.Loads.{TookFirst}
-use Rattle.mov_edge.specs.Outside.{Named, Lacks, Rose, Tells, Took}
+use Rattle.std.specs.Prelude.{Result, Ok, Err}
+use Rattle.mov_edge.specs.Outside.{Named, Lacks, Rose, Tells}
 use Rattle.ballot_csv.specs.BallotFile.{NamedPoll, read_of}
 use Rattle.ballot_csv.specs.PlainForm.{plain_form}
 use Rattle.ballot_csv.specs.declared.fault.BallotFault.{BallotFault}
@@ -18,7 +17,7 @@ use Rattle.mov_run.specs.declared.jobs.Job.TheVariants.{Margin, Show}
 use Rattle.mov_run.specs.declared.jobs.WordFault.{WordFault}
 use Rattle.mov_run.specs.declared.runs.Output.{Output}
 use Rattle.mov_run.specs.declared.runs.Status.{Status}
-use Rattle.mov_run.specs.declared.runs.Status.TheVariants.{Done, Bounds, Refused, Words, Ballots, Certificate, Read, Write, Memory}
+use Rattle.mov_run.specs.declared.runs.Status.TheVariants.{Done, Words, Ballots, Read, Write, Memory}
 use Rattle.mov_run.specs.declared.stops.Stop.{Stop}
 use Rattle.mov_run.specs.declared.stops.Stop.TheVariants as stop
 

@@ -1,7 +1,7 @@
 -- Which answers a job allows.
 use Rattle.std.specs.Prelude.{◌≡◌, ◌⊎◌, ◌<◌, ◌≤◌, ℕ, List, length, Option, Result, Ok, Err}
 use Rattle.mov_edge.specs.Outside.{Named, Place, Tells, Lacks, Rose, TookMore}
-use Rattle.ballot_csv.specs.BallotFile.{IsRead, NamedPoll, read_of}
+use Rattle.ballot_csv.specs.BallotFile.{NamedPoll, read_of}
 use Rattle.ballot_csv.specs.PlainForm.{plain_form}
 use Rattle.ballot_csv.specs.declared.fault.BallotFault.{BallotFault}
 use Rattle.ballot_form.specs.declared.contest.Contest.{Contest}

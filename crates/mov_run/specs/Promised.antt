@@ -1,12 +1,12 @@
 -- What a run promises: what it leaves, and what follows from that.
-use Rattle.std.specs.Prelude.{◌≡◌, ◌⊎◌, ◌≤◌, ◌<◌, ℕ, List, codes, length, Result, Ok, Err}
+use Rattle.std.specs.Prelude.{◌≡◌, ◌⊎◌, ◌≤◌, ◌<◌, ℕ, List, codes, length, Ok, Err}
 use Rattle.mov_edge.specs.Loads.{TookFirst}
-use Rattle.mov_edge.specs.Outside.{Took, Tells, Lacks, Rose, TookMore}
+use Rattle.mov_edge.specs.Outside.{Took, Tells, Lacks, Rose}
 use Rattle.ballot_csv.specs.BallotFile.{NamedPoll, read_of}
 use Rattle.ballot_csv.specs.PlainForm.{plain_form}
 use Rattle.ballot_csv.specs.declared.fault.BallotFault.{BallotFault}
 use Rattle.ballot_form.specs.declared.rule.Rule.TheVariants.{Plurality}
-use Rattle.mov_run.specs.Allowed.{Allowed, Answer, IsFaultyFile, IsLong, ballot_limit}
+use Rattle.mov_run.specs.Allowed.{Allowed, IsFaultyFile, IsLong, ballot_limit}
 use Rattle.mov_run.specs.Certificates.{IsCertOf, cert_text}
 use Rattle.mov_run.specs.Ran.{Outside, Ran, SaysLine, line_of, source_of}
 use Rattle.mov_run.specs.Words.{BallotFile, IsNoCommand, Names, meaning}

@@ -1,4 +1,4 @@
-use Rattle.std.proofs.Common.{subst, length}
+use Rattle.std.proofs.Common.{subst}
 use Rattle.mov_run.specs.Nearest.{IsNearestByScores}
 use Rattle.mov_run.proofs.Answers.{nearest_found}
 use Rattle.mov_run.proofs.margins.cheapest.Goals as goal

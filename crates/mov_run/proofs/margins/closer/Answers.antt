@@ -1,4 +1,3 @@
-use Rattle.std.proofs.Common.{arith}
 use Rattle.mov_run.proofs.Closer.{kept, passed, taken}
 use Rattle.mov_run.proofs.margins.closer.Goals as goal
 

@@ -1,4 +1,4 @@
-use Rattle.std.proofs.Common.{arith, subst, length, ◌≡◌}
+use Rattle.std.proofs.Common.{arith, subst}
 use Rattle.mov_run.specs.Nearest.{IsCloserUpTo}
 use Rattle.mov_run.proofs.margins.nearest.Goals as goal
 
