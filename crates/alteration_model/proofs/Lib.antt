@@ -1,0 +1,3 @@
+pub mod Judged
+pub mod Merged
+pub mod Unique
