@@ -25,7 +25,11 @@ pub record DiskState : Type 0 where
   pub at : Option Place
   pub faults : ℕ
 
--- the count of faults rises at a listed call, and at no other
-pub record CountsListed (failing : List ℕ) (call before now : ℕ) : Type 0 where
-  pub listed : Contains failing call → now ≡ next_count before
-  pub other : (Contains failing call → ⊥) → now ≡ before
+-- the call after so many calls is listed
+abbrev pub IsNextListed : List ℕ → ℕ → Type 0
+IsNextListed failing calls = Contains failing (next_count calls)
+
+-- the count of faults rises by one where the next call is listed, and only there
+pub record CountsListed (failing : List ℕ) (calls before now : ℕ) : Type 0 where
+  pub listed : IsNextListed failing calls → now ≡ next_count before
+  pub other : (IsNextListed failing calls → ⊥) → now ≡ before

@@ -1,4 +1,4 @@
--- What reading and writing a whole promise.
+-- What is promised of a file that is read whole, and of bytes that are written whole.
 use Rattle.std.specs.Prelude.{◌≡◌, ◌⊎◌, ℕ, ◌≤◌, List, length, take, Option, Result, IsErrOf}
 use Rattle.mov_edge.specs.Outside.{Rose, Took}
 use Rattle.mov_edge.specs.declared.transfer.LoadFault.{LoadFault}

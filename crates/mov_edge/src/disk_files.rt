@@ -112,18 +112,21 @@ impl Files for DiskFiles {
     }
 
     fn read(&mut self, buf: &mut [u8]) -> Result<usize, Failed>
+        requires { IsSome self.old.at }
         ensures bound { IfOk result (λ n. n ≤ length buf.new) }
-        ensures on { (p : Place) → self.old.at ≡ Some p → IfOk result (λ n. self.new.at ≡ Some (record { name = p.name; given = p.given + n })) }
+        ensures on { (p : Place) → self.old.at ≡ Some p
+            → IfOk result (λ n. self.new.at ≡ Some (record { name = p.name; given = p.given + n })) }
         ensures stays { OnErr result (self.new.at ≡ self.old.at) }
         ensures kept { OnOk result (self.new.faults ≡ self.old.faults) }
         ensures counted { OnErr result (self.new.faults ≡ next_count self.old.faults) }
         ensures later { self.old.faults ≤ self.new.faults }
     {
-        if let Some(begun) = &mut self.reading {
-            if let Ok(count) = begun.next(buf) {
-                return Ok(count);
-            }
+        let Some(begun) = &mut self.reading else {
+            unreachable!();
+        };
+        match begun.next(buf) {
+            Ok(count) => Ok(count),
+            Err(_) => Err(raise(&mut self.faults)),
         }
-        Err(raise(&mut self.faults))
     }
 }

@@ -1,7 +1,7 @@
 // Files in memory.
 ghost use Rattle.std.specs.Prelude.{◌≡◌, ◌+◌, ◌-◌, ◌≤◌, ◌<◌, ◌⊎◌, ◌↔◌, ◌++◌, [], ◌∷◌, ℕ, List, min, map, IfOk, OnOk, OnErr, IsErr, IsSome, None, Some, MatchOption, length, take, drop, slice_get, Contains};
 ghost use Rattle.mov_edge.specs.Outside.{Counts, GivesNext, Lacks, Tells, Place, Named, file_of, next_count};
-ghost use Rattle.mov_edge.specs.Devices.{FilesState, CountsListed};
+ghost use Rattle.mov_edge.specs.Devices.{FilesState, IsNextListed, CountsListed};
 ghost use Rattle.mov_edge.specs.Held.{named};
 
 use crate::faults::{is_listed, raise};
@@ -82,8 +82,9 @@ impl MemFiles {
 
     /// Adds a file. Its name must be new.
     pub fn add(&mut self, name: &str, bytes: Vec<u8>) -> Result<(), Memory>
-        requires { file_of name.now self.old.told ≡ None }
-        ensures ok { OnOk result (self.new ≡ record self.old { told = self.old.told ++ record { name = name.now; bytes = bytes.items } ∷ [] }) }
+        requires { Lacks (Some self.old.told) name.now }
+        ensures ok { OnOk result (self.new ≡ record self.old
+            { told = self.old.told ++ record { name = name.now; bytes = bytes.items } ∷ [] }) }
         ensures err { OnErr result (self.new ≡ self.old) }
     {
         let name = String::from_str(self.alloc, name)?;
@@ -107,9 +108,10 @@ impl Files for MemFiles {
         ensures cause { Counts self.old.faults self.new.faults result (Lacks (Some self.old.told) name.now) }
 
         // What more this source promises: exactly when it fails, exactly what it counts, and that nothing else changes.
-        ensures fails { IsErr result ↔ (Contains self.old.failing (next_count self.old.calls) ⊎ (file_of name.now self.old.told ≡ None)) }
-        ensures counted { CountsListed self.old.failing (next_count self.old.calls) self.old.faults self.new.faults }
-        ensures rest { self.new ≡ record self.old { at = self.new.at; calls = next_count self.old.calls; faults = self.new.faults } }
+        ensures fails { IsErr result ↔ (IsNextListed self.old.failing self.old.calls ⊎ Lacks (Some self.old.told) name.now) }
+        ensures counted { CountsListed self.old.failing self.old.calls self.old.faults self.new.faults }
+        ensures rest { self.new ≡ record self.old
+            { at = self.new.at; calls = next_count self.old.calls; faults = self.new.faults } }
     {
         self.calls = self.calls.saturating_add(1);
         self.spot = None;
@@ -126,27 +128,33 @@ impl Files for MemFiles {
     }
 
     fn read(&mut self, buf: &mut [u8]) -> Result<usize, Failed>
+        requires { IsSome self.old.at }
         ensures told { self.new.told ≡ self.old.told }
         ensures bound { IfOk result (λ n. n ≤ length buf.new) }
-        ensures on { (p : Place) → self.old.at ≡ Some p → IfOk result (λ n. self.new.at ≡ Some (record { name = p.name; given = p.given + n })) }
+        ensures on { (p : Place) → self.old.at ≡ Some p
+            → IfOk result (λ n. self.new.at ≡ Some (record { name = p.name; given = p.given + n })) }
         ensures stays { OnErr result (self.new.at ≡ self.old.at) }
-        ensures bytes { (p : Place) (bytes : List ℕ) → self.old.at ≡ Some p → Tells (Some self.old.told) p.name bytes → IfOk result (λ n. GivesNext bytes p.given n buf.new) }
+        ensures bytes { (p : Place) (bytes : List ℕ) → self.old.at ≡ Some p → Tells (Some self.old.told) p.name bytes
+            → IfOk result (λ n. GivesNext bytes p.given n buf.new) }
         ensures cause { Counts self.old.faults self.new.faults result ⊥ }
 
-        // What more this source promises: as many bytes as the step, the buffer and the file allow, and the rest of the buffer as it was.
-        ensures count { (p : Place) (bytes : List ℕ) → self.old.at ≡ Some p → Tells (Some self.old.told) p.name bytes → IfOk result (λ n. n ≡ min (min (length bytes - p.given) (length buf.old)) self.old.step) }
+        // What more this source promises: as many bytes as the step, the buffer and the file allow, and the buffer beyond them as it
+        // was; exactly when it fails, exactly what it counts, and that nothing else changes.
+        ensures count { (p : Place) (bytes : List ℕ) → self.old.at ≡ Some p → Tells (Some self.old.told) p.name bytes
+            → IfOk result (λ n. n ≡ min (min (length bytes - p.given) (length buf.old)) self.old.step) }
         ensures beyond { IfOk result (λ n. drop n buf.new ≡ drop n buf.old) }
         ensures untouched { OnErr result (buf.new ≡ buf.old) }
-        ensures fails { IsErr result ↔ Contains self.old.failing (next_count self.old.calls) }
-        ensures counted { CountsListed self.old.failing (next_count self.old.calls) self.old.faults self.new.faults }
-        ensures rest { self.new ≡ record self.old { at = self.new.at; calls = next_count self.old.calls; faults = self.new.faults } }
+        ensures fails { IsErr result ↔ IsNextListed self.old.failing self.old.calls }
+        ensures counted { CountsListed self.old.failing self.old.calls self.old.faults self.new.faults }
+        ensures rest { self.new ≡ record self.old
+            { at = self.new.at; calls = next_count self.old.calls; faults = self.new.faults } }
     {
         self.calls = self.calls.saturating_add(1);
         if is_listed(&self.failing, self.calls) {
             return Err(raise(&mut self.faults));
         }
         let Some(spot) = self.spot else {
-            return Ok(0);
+            unreachable!();
         };
         let file = &self.files[spot.file];
         let count = (file.bytes.len() - spot.given)

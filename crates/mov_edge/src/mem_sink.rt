@@ -1,7 +1,7 @@
 // A sink in memory.
 ghost use Rattle.std.specs.Prelude.{◌≡◌, ◌+◌, ◌-◌, ◌≤◌, ◌<◌, ◌⊎◌, ◌↔◌, ◌++◌, [], min, IfOk, OnErr, IsErr, Some, length, take, Contains};
 ghost use Rattle.mov_edge.specs.Outside.{Took, Counts, next_count};
-ghost use Rattle.mov_edge.specs.Devices.{SinkState};
+ghost use Rattle.mov_edge.specs.Devices.{SinkState, IsNextListed};
 
 use crate::faults::{is_listed, raise};
 use crate::{Failed, Sink};
@@ -9,8 +9,8 @@ use mov_base::Memory;
 use std::alloc::Global;
 use std::marker::Model;
 
-/// A sink in memory, with room for so many bytes, that takes at most a step of bytes at each call. It fails at the calls whose numbers,
-/// from 1, are listed, and where it is full.
+/// A sink in memory, with room for so many bytes, that takes at most a step of bytes at each call. It fails at the calls whose
+/// numbers, from 1, are listed, and where it is full and there is a byte to take.
 #[derive(Drop)]
 pub struct MemSink {
     taken: Vec<u8>,
@@ -41,7 +41,8 @@ impl MemSink {
         failing: Vec<u32>,
     ) -> Result<MemSink, Memory>
         requires { 1 ≤ step }
-        ensures { IfOk result (λ s. s ≡ record { taken = []; room = room; step = step; failing = failing.items; calls = 0; faults = 0 }) }
+        ensures { IfOk result
+            (λ s. s ≡ record { taken = []; room = room; step = step; failing = failing.items; calls = 0; faults = 0 }) }
     {
         let taken = Vec::with_capacity(alloc, room)?;
         Ok(MemSink {
@@ -76,11 +77,15 @@ impl Sink for MemSink {
         ensures stays { OnErr result (Some self.new.taken ≡ Some self.old.taken) }
         ensures cause { Counts self.old.faults self.new.faults result ⊥ }
 
-        // What more this sink promises: as many bytes as the step and the room allow, and exactly when it fails.
-        ensures count { IfOk result (λ n. n ≡ min (length bytes.now) (min self.old.step (self.old.room - length self.old.taken))) }
-        ensures fails { IsErr result ↔ (Contains self.old.failing (next_count self.old.calls) ⊎ ((length self.old.taken ≡ self.old.room) × (0 < length bytes.now))) }
+        // What more this sink promises: as many bytes as the step and the room allow, exactly when it fails, that each failure is
+        // counted, and that nothing else changes.
+        ensures count { IfOk result
+            (λ n. n ≡ min (length bytes.now) (min self.old.step (self.old.room - length self.old.taken))) }
+        ensures fails { IsErr result
+            ↔ (IsNextListed self.old.failing self.old.calls ⊎ ((length self.old.taken ≡ self.old.room) × (0 < length bytes.now))) }
         ensures counted { OnErr result (self.new.faults ≡ next_count self.old.faults) }
-        ensures rest { self.new ≡ record self.old { taken = self.new.taken; calls = next_count self.old.calls; faults = self.new.faults } }
+        ensures rest { self.new ≡ record self.old
+            { taken = self.new.taken; calls = next_count self.old.calls; faults = self.new.faults } }
     {
         self.calls = self.calls.saturating_add(1);
         let left = self.room - self.taken.len();

@@ -25,15 +25,17 @@ pub trait Files {
         ensures lacks { Lacks (told self.old) name.now → IsErr result }
         ensures cause { Counts (faults self.old) (faults self.new) result (Lacks (told self.old) name.now) };
 
-    /// Gives the next bytes of the file that is being read, in the first places of the buffer, and answers how many. It answers 0 for
-    /// a buffer that isn't empty only at the end of the file. After a failure nothing was given.
+    /// Gives the next bytes of the file that is being read, in the first places of the buffer, and answers how many. It answers 0
+    /// for a buffer that isn't empty only at the end of the file. After a failure nothing was given.
     fn read(&mut self, buf: &mut [u8]) -> Result<usize, Failed>
         requires { IsSome (at self.old) }
         ensures told { told self.new ≡ told self.old }
         ensures bound { IfOk result (λ n. n ≤ length buf.new) }
-        ensures on { (p : Place) → at self.old ≡ Some p → IfOk result (λ n. at self.new ≡ Some (record { name = p.name; given = p.given + n })) }
+        ensures on { (p : Place) → at self.old ≡ Some p
+            → IfOk result (λ n. at self.new ≡ Some (record { name = p.name; given = p.given + n })) }
         ensures stays { OnErr result (at self.new ≡ at self.old) }
-        ensures bytes { (p : Place) (bytes : List ℕ) → at self.old ≡ Some p → Tells (told self.old) p.name bytes → IfOk result (λ n. GivesNext bytes p.given n buf.new) }
+        ensures bytes { (p : Place) (bytes : List ℕ) → at self.old ≡ Some p → Tells (told self.old) p.name bytes
+            → IfOk result (λ n. GivesNext bytes p.given n buf.new) }
         ensures cause { Counts (faults self.old) (faults self.new) result ⊥ };
 }
 
@@ -45,7 +47,8 @@ pub trait Sink {
     /// How many calls failed. A count that is at 2^64 - 1 stays there.
     ghost faults: { Self → ℕ };
 
-    /// Takes a first part of the bytes, and answers how many: at least one, unless there are none. After a failure nothing was taken.
+    /// Takes a first part of the bytes, and answers how many: at least one, unless there are none. After a failure nothing was
+    /// taken.
     fn write(&mut self, bytes: &[u8]) -> Result<usize, Failed>
         ensures bound { IfOk result (λ n. n ≤ length bytes.now) }
         ensures some { IfOk result (λ n. 0 < length bytes.now → 0 < n) }

@@ -38,7 +38,8 @@ impl From<Failed> for LoadFault {
 /// The greatest number of bytes that are asked for at once.
 const PIECE: usize = 16_384;
 
-/// How many bytes to ask for where so many more are within the limit: one more than those, by which a longer file shows, or a piece.
+/// How many bytes to ask for where so many more are within the limit: one more than those, by which a longer file shows itself, but
+/// at most a piece.
 fn asked(left: u64) -> usize
     ensures { result ≡ min (left + 1) PIECE }
 {
@@ -47,8 +48,8 @@ fn asked(left: u64) -> usize
 
 /// Reads the file of this name from its start to its end, if it has at most `limit` bytes.
 ///
-/// The file is begun once. Of a longer file one byte more than the limit is taken, and no more. After want of memory some first part
-/// of the file was taken.
+/// The file is begun once. Of a longer file one byte more than the limit is taken, and no more. After want of memory, some first
+/// part of the file was taken.
 pub fn read_whole<F: Files>(
     alloc: Global,
     files: &mut F,
@@ -62,11 +63,12 @@ pub fn read_whole<F: Files>(
     ensures bytes { (bytes : List ℕ) → Tells (F.told files.old) name.now bytes → IfOk result (λ v. v.items ≡ bytes) }
     ensures within { IfOk result (λ v. length v.items ≤ limit) }
 
-    // Too long is exactly a file that gave more than the limit. Whatever the answer, no other file is being read, and no more than one
+    // Too long is exactly a file that gave more than the limit. Whatever the answer, no other file is being read, and at most one
     // byte past the limit was taken of this one.
     ensures too_long { IsErrOf result LoadFault.TooLong ↔ TookMore (F.at files.new) name.now limit }
     ensures taken { IfSome (F.at files.new) (λ p. (p.name ≡ name.now) × (p.given ≤ limit + 1)) }
-    ensures too_long_told { IsErrOf result LoadFault.TooLong → (bytes : List ℕ) → Tells (F.told files.old) name.now bytes → limit < length bytes }
+    ensures too_long_told { IsErrOf result LoadFault.TooLong
+        → (bytes : List ℕ) → Tells (F.told files.old) name.now bytes → limit < length bytes }
 
     ensures lacks { Lacks (F.told files.old) name.now → IsErrOf result LoadFault.Failed }
     ensures cause { LoadCounts (F.faults files.old) (F.faults files.new) result (Lacks (F.told files.old) name.now) }
