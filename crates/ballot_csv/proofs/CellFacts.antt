@@ -1,10 +1,9 @@
 -- The cells of a record by their numbers.
 use Rattle.std.proofs.Common.{ℕ, List, [], ◌∷◌, ◌++◌, ◌≡◌, ◌<◌, ◌≤◌, ◌+◌, ◌∙◌, refl, ap, Bool, true, false, Option, Some, None, length, suc, zero, arith, take, drop}
-use Rattle.std.specs.Prelude.{IsSome, slice_get, option_map, ◌&&◌, ◌||◌, fold}
+use Rattle.std.specs.Prelude.{IsSome, slice_get, option_map, ◌&&◌, ◌||◌}
 use Rattle.std.specs.List.{list_all, list_any}
 use Rattle.std.proofs.lemmas.List.{take_more}
 use Rattle.std.proofs.lemmas.List.Folds.{list_all_more, list_any_at, list_any-append}
-use Rattle.std.proofs.lemmas.List.Sums.{fold-append}
 use Rattle.std.proofs.lemmas.Option.{get_or_from_slice_get, slice_get_within}
 use Rattle.std.proofs.Math.Bool.{and-false, or-false}
 use Rattle.csv.specs.Records.{field_at}
@@ -62,7 +61,3 @@ module _ {X : Type 0} where
   pub any_rest_more : (p : X → Bool) (xs : List X) (i : ℕ) (x : X) → 1 ≤ i → slice_get xs i ≡ Some x
       → list_any p (drop 1 (take (i + 1) xs)) ≡ (list_any p (drop 1 (take i xs)) || p x)
   any_rest_more p xs i x one at = rw (rest_more xs i x one at, list_any-append p (drop 1 (take i xs)) (x ∷ [])) (ap (λ b. list_any p (drop 1 (take i xs)) || b) (or-false (p x)))
-
-  pub fold_rest_more : {Y : Type 0} (f : Y → X → Y) (a : Y) (xs : List X) (i : ℕ) (x : X) → 1 ≤ i → slice_get xs i ≡ Some x
-      → fold f a (drop 1 (take (i + 1) xs)) ≡ f (fold f a (drop 1 (take i xs))) x
-  fold_rest_more f a xs i x one at = rw (rest_more xs i x one at) (fold-append f a (drop 1 (take i xs)) (x ∷ []))

@@ -4,7 +4,7 @@ use Rattle.std.specs.Prelude.{◌==◌, ◌≢◌, ⊤, AllPairs, Ok, codes, nat
 use Rattle.std.specs.List.{list_any, prefix_len}
 use Rattle.std.specs.Str.{bytes_eq}
 use Rattle.std.proofs.Math.Seq.{get_or-append_seam}
-use Rattle.std.proofs.lemmas.Bool.{cases_Bool, ne_eqb}
+use Rattle.std.proofs.lemmas.Bool.{cases_Bool}
 use Rattle.std.proofs.lemmas.Bool.Decides.{nat_tests}
 use Rattle.std.proofs.lemmas.List.{get_or_append_left, length-replicate}
 use Rattle.std.proofs.lemmas.List.Elements.{All-cons, All-nil}
@@ -21,7 +21,7 @@ use Rattle.ballot_csv.specs.Marks.{without_marks}
 use Rattle.ballot_csv.specs.OneRecord.{is_empty}
 use Rattle.ballot_csv.specs.PlainForm.{name_at, plain_form, plain_records, record_of, run_records, runs_of, text_of_rows, with_ballot}
 use Rattle.ballot_csv.proofs.Back.{HasCells, records_back}
-use Rattle.ballot_csv.proofs.Reread.{Follows, IsNamed, Writable, rows_back, runs_back, spread}
+use Rattle.ballot_csv.proofs.Reread.{IsNamed, IsReadable, Writable, first_all, rest_all, rows_back, rows_good, runs_back, spread}
 
 -- what stands after others is none of them
 fresh : {X : Type 0} (before : List X) (x : X) (rest : List X) → AllPairs (λ a b. a ≢ b) (before ++ x ∷ rest) → (k : ℕ) (d : X) → k < length before → get_or before k d ≢ x
@@ -32,12 +32,6 @@ fresh before x rest apart k d within same =
 -- the same list, one item on
 one_on : {X : Type 0} (before : List X) (x : X) (rest : List X) → AllPairs (λ a b. a ≢ b) (before ++ x ∷ rest) → AllPairs (λ a b. a ≢ b) ((before ++ x ∷ []) ++ rest)
 one_on {X} before x rest apart = subst (λ (xs : List X). AllPairs (λ a b. a ≢ b) xs) (sym (append_assoc before (x ∷ []) rest)) apart
-
-rest_all : {X : Type 0} (P : X → Type 0) (x : X) (xs : List X) → All P (x ∷ xs) → All P xs
-rest_all P x xs all k d within = all (suc k) d (omega arith)
-
-first_all : {X : Type 0} (P : X → Type 0) (x : X) (xs : List X) → All P (x ∷ xs) → P x
-first_all P x xs all = all 0 x (omega arith)
 
 bytes_differ : (x y : List ℕ) → (y ≡ x → ⊥) → bytes_eq x y ≡ false
 bytes_differ x y other = elim (cases_Bool (bytes_eq x y)) [
@@ -89,35 +83,33 @@ named names x good apart within =
           (λ k below. bytes_differ (get_or names x []) (get_or names k []) (apart k x [] below within)));
     }
 
--- the candidates of a valid ballot are named, each once
-follows : (names : List (List ℕ)) (before ballot : List ℕ) → All (λ name. is_name name ≡ true) names → AllPairs (λ a b. a ≢ b) names → All (λ x. x < length names) ballot
-    → AllPairs (λ a b. a ≢ b) (before ++ ballot) → Follows names before ballot
-follows names before [] good apart below distinct = tt
-follows names before (x ∷ xs) good apart below distinct =
-    let new : list_any (λ y. y == x) before ≡ false = list_any_none (λ y. y == x) before (λ k d within. ne_eqb (get_or before k d) x (fresh before x xs distinct k d within)) in (
-      named names x good apart (first_all (λ y. y < length names) x xs below),
-      new,
-      follows names (before ++ x ∷ []) xs good apart (rest_all (λ y. y < length names) x xs below) (one_on before x xs distinct),
-    )
+-- a valid ballot is read as it
+readable : (names : List (List ℕ)) (c : ℕ) (ballot : List ℕ) → length names ≡ c → All (λ name. is_name name ≡ true) names → AllPairs (λ a b. a ≢ b) names
+    → IsValidBallot c ballot → IsReadable names ballot
+readable names c ballot one good apart valid = record {
+  named = λ k d within. named names (get_or ballot k d) good apart (rw one (valid.below k d within));
+  distinct = valid.distinct;
+}
 
--- each run has a ballot whose candidates are named
-abbrev RunsNamed : List (List ℕ) → List (ℕ × List ℕ) → Type 0
-RunsNamed names [] = ⊤
-RunsNamed names (run ∷ runs) = Follows names [] run.1 × RunsNamed names runs
+-- each run has a ballot that is read as it
+abbrev RunsReadable : List (List ℕ) → List (ℕ × List ℕ) → Type 0
+RunsReadable names [] = ⊤
+RunsReadable names (run ∷ runs) = IsReadable names run.1 × RunsReadable names runs
 
-with_named : (names : List (List ℕ)) (ballot : List ℕ) (runs : List (ℕ × List ℕ)) → Follows names [] ballot → RunsNamed names runs → RunsNamed names (with_ballot ballot runs)
-with_named names ballot [] here all = (here, tt)
-with_named names ballot (run ∷ runs) here all = elim (cases_Bool (bytes_eq ballot run.1)) [
+with_readable : (names : List (List ℕ)) (ballot : List ℕ) (runs : List (ℕ × List ℕ)) → IsReadable names ballot → RunsReadable names runs
+    → RunsReadable names (with_ballot ballot runs)
+with_readable names ballot [] here all = (here, tt)
+with_readable names ballot (run ∷ runs) here all = elim (cases_Bool (bytes_eq ballot run.1)) [
   | inl same ↦ rw same all
   | inr other ↦ rw other (here, all)
 ]
 
-runs_named : (names ballots : List (List ℕ)) → All (Follows names []) ballots → RunsNamed names (runs_of ballots)
-runs_named names [] all = tt
-runs_named names (ballot ∷ ballots) all =
-    with_named names ballot (runs_of ballots) (first_all (Follows names []) ballot ballots all) (runs_named names ballots (rest_all (Follows names []) ballot ballots all))
+runs_readable : (names ballots : List (List ℕ)) → All (IsReadable names) ballots → RunsReadable names (runs_of ballots)
+runs_readable names [] all = tt
+runs_readable names (ballot ∷ ballots) all =
+    with_readable names ballot (runs_of ballots) (first_all (IsReadable names) ballot ballots all) (runs_readable names ballots (rest_all (IsReadable names) ballot ballots all))
 
-writable : (names : List (List ℕ)) (before : ℕ) (runs : List (ℕ × List ℕ)) → RunsNamed names runs → before + length (spread runs) ≤ 1000000 → Writable names before runs
+writable : (names : List (List ℕ)) (before : ℕ) (runs : List (ℕ × List ℕ)) → RunsReadable names runs → before + length (spread runs) ≤ 1000000 → Writable names before runs
 writable names before [] all few = tt
 writable names before (run ∷ runs) all few =
     let size = length-append (replicate run.0 run.1) (spread runs) in
@@ -146,14 +138,8 @@ head_good names some few filled good =
 
 records_read : (k : NamedPoll) → head_fault (codes "ballots" ∷ k.names) ≡ None → names_of (codes "ballots" ∷ k.names) ≡ k.names → length k.names ≡ k.poll.c
     → Writable k.names 0 (runs_of k.poll.rows) → read_records (plain_records k) ≡ Ok k
-records_read k good same one runs = rw (good, same, rows_back k.names 2 [] (runs_of k.poll.rows) runs, runs_back k.poll.rows, one) refl
-
-ballots_follow : (names : List (List ℕ)) (c : ℕ) (rows : List (List ℕ)) → length names ≡ c → All (λ name. is_name name ≡ true) names → AllPairs (λ a b. a ≢ b) names
-    → All (IsValidBallot c) rows → All (Follows names []) rows
-ballots_follow names c rows one good apart valid k d within =
-    let ballot = get_or rows k d in
-    let is = valid k d within in
-    follows names [] ballot good apart (λ i e inside. rw one (is.below i e inside)) is.distinct
+records_read k good same one runs =
+    rw (good, same, rows_good k.names 2 0 (runs_of k.poll.rows) runs, rows_back k.names 0 (runs_of k.poll.rows) runs, runs_back k.poll.rows, one) refl
 
 -- the plain form of distinct and admitted names and a poll of theirs is read as them
 pub read_plain : (k : NamedPoll) → length k.names ≡ k.poll.c → AllPairs (λ a b. a ≢ b) k.names → All (λ name. is_name name ≡ true) k.names → IsPoll k.poll
@@ -166,6 +152,7 @@ read_plain k one apart good poll =
     let head = head_good k.names (omega (arith, one, poll.some)) (omega (arith, one, poll.most)) filled none in
     let same : names_of (codes "ballots" ∷ k.names) ≡ k.names = rw filled refl in
     let size = ap length (runs_back k.poll.rows) in
-    let runs = writable k.names 0 (runs_of k.poll.rows) (runs_named k.names k.poll.rows (ballots_follow k.names k.poll.c k.poll.rows one good apart poll.valid)) (omega (arith, size, poll.few)) in
+    let each = λ (i : ℕ) (d : List ℕ) (within : i < length k.poll.rows). readable k.names k.poll.c (get_or k.poll.rows i d) one good apart (poll.valid i d within) in
+    let runs = writable k.names 0 (runs_of k.poll.rows) (runs_readable k.names k.poll.rows each) (omega (arith, size, poll.few)) in
     ap (λ t. read_records (records default_config t)) (no_mark k.names (run_records k.names k.poll.rows))
     ∙ ap read_records (records_back (plain_records k) (have_cells k)) ∙ records_read k head same one runs

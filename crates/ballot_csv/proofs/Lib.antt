@@ -1,8 +1,10 @@
 pub mod Back
+pub mod BallotFacts
 pub mod CellFacts
 pub mod CountFacts
 pub mod FormFacts
 pub mod GivesFacts
+pub mod GoodFile
 pub mod GoodNames
 pub mod HeadFacts
 pub mod Law

@@ -1,18 +1,19 @@
 -- The runs of a contest are read back as its ballots.
-use Rattle.std.proofs.Common.{ℕ, List, [], ◌∷◌, ◌++◌, ◌≡◌, ◌∙◌, ◌+◌, ◌<◌, ◌≤◌, ◌^◌, refl, sym, ap, false, true, Some, None, length, zero, suc, arith, inl, inr, map, replicate, append_assoc, add-one, length-append}
-use Rattle.std.specs.Prelude.{◌==◌, ◌&&◌, ⊤, Bool, Ok, decimal, fold, nat_lt, slice_index}
-use Rattle.std.specs.List.{list_all, list_any}
+use Rattle.std.proofs.Common.{ℕ, List, [], ◌∷◌, ◌++◌, ◌≡◌, ◌∙◌, ◌+◌, ◌<◌, ◌≤◌, ◌^◌, refl, sym, ap, ap₂, All, Bool, false, true, Some, None, length, zero, suc, arith, inl, inr, map, replicate, add-one, get_or}
+use Rattle.std.specs.Prelude.{◌==◌, ◌&&◌, ⊤, decimal, filter, nat_lt, not, slice_index}
+use Rattle.std.specs.List.{filter_map, flat_map, list_all, list_any}
 use Rattle.std.specs.Char.{is_ascii_digit}
 use Rattle.std.specs.Str.{bytes_eq}
 use Rattle.std.specs.Str.Parse.{AllDigits}
-use Rattle.std.proofs.lemmas.Bool.{cases_Bool}
+use Rattle.std.proofs.lemmas.Bool.{cases_Bool, ne_eqb, not_from_false}
 use Rattle.std.proofs.lemmas.Fmt.{decimal_digit, decimal_is_IsNumeral, first_decimal}
-use Rattle.std.proofs.lemmas.List.{append-nil, length-replicate}
+use Rattle.std.proofs.lemmas.List.{length-replicate}
 use Rattle.std.proofs.lemmas.Slice.Eq.{bytes_eq-Decides}
 use Rattle.std.proofs.lemmas.Str.Parse.{digit_from_value}
-use Rattle.ballot_csv.specs.BallotFile.{read_rows, unless_fault}
+use Rattle.ballot_form.specs.Ballots.{AreDistinct}
+use Rattle.ballot_csv.specs.BallotFile.{rows_fault}
 use Rattle.ballot_csv.specs.Counts.{has_leading_zero, is_number, number_of}
-use Rattle.ballot_csv.specs.OneRecord.{ballot_of, ballots_of, is_empty, is_unknown, place_of, record_fault, with_cell}
+use Rattle.ballot_csv.specs.OneRecord.{ballot_of, ballots_of, candidate_of, is_empty, is_unknown, place_of, record_fault, without_repeats}
 use Rattle.ballot_csv.specs.PlainForm.{name_at, record_of, runs_of, with_ballot}
 
 -- the ballots of runs
@@ -57,61 +58,79 @@ count_back n h =
     let number : is_number (decimal n) ≡ true = rw (some, starts_right n h, digits_are (decimal n) numeral.0.1) refl in
     rw (number, numeral.1) refl
 
+pub rest_all : {X : Type 0} (P : X → Type 0) (x : X) (xs : List X) → All P (x ∷ xs) → All P xs
+rest_all P x xs all k d within = all (suc k) d (omega arith)
+
+pub first_all : {X : Type 0} (P : X → Type 0) (x : X) (xs : List X) → All P (x ∷ xs) → P x
+first_all P x xs all = all 0 x (omega arith)
+
 -- the name of a candidate is found at its place
 pub record IsNamed (names : List (List ℕ)) (x : ℕ) : Type 0 where
   pub filled : is_empty (name_at names x) ≡ false
   pub found : place_of names (name_at names x) ≡ Some x
 
--- each is named, and none stands before
-abbrev pub Follows : List (List ℕ) → List ℕ → List ℕ → Type 0
-Follows names before [] = ⊤
-Follows names before (x ∷ xs) = IsNamed names x × (list_any (λ y. y == x) before ≡ false) × Follows names (before ++ x ∷ []) xs
+-- a ballot whose names are read as it
+pub record IsReadable (names : List (List ℕ)) (ballot : List ℕ) : Type 0 where
+  pub named : All (IsNamed names) ballot
+  pub distinct : AreDistinct ballot
 
-one_cell : (names : List (List ℕ)) (before : List ℕ) (x : ℕ) → IsNamed names x → list_any (λ y. y == x) before ≡ false
-    → with_cell names before (name_at names x) ≡ before ++ x ∷ []
-one_cell names before x named fresh = rw (named.filled, named.found, fresh) refl
+cells_back : (names : List (List ℕ)) (ballot : List ℕ) → All (IsNamed names) ballot → filter_map (candidate_of names) (map (name_at names) ballot) ≡ ballot
+cells_back names [] named = refl
+cells_back names (x ∷ xs) named =
+    let here = first_all (IsNamed names) x xs named in
+    rw (here.filled, here.found, cells_back names xs (rest_all (IsNamed names) x xs named)) refl
 
-cells_back : (names : List (List ℕ)) (before ballot : List ℕ) → Follows names before ballot
-    → fold (with_cell names) before (map (name_at names) ballot) ≡ before ++ ballot
-cells_back names before [] h = sym (append-nil before)
-cells_back names before (x ∷ xs) h =
-    ap (λ acc. fold (with_cell names) acc (map (name_at names) xs)) (one_cell names before x h.0 h.1)
-    ∙ cells_back names (before ++ x ∷ []) xs h.2 ∙ append_assoc before (x ∷ []) xs
+kept_all : (p : ℕ → Bool) (xs : List ℕ) → All (λ x. p x ≡ true) xs → filter p xs ≡ xs
+kept_all p [] all = refl
+kept_all p (x ∷ xs) all = rw (first_all (λ y. p y ≡ true) x xs all, kept_all p xs (rest_all (λ y. p y ≡ true) x xs all)) refl
+
+no_repeats : (xs : List ℕ) → AreDistinct xs → without_repeats xs ≡ xs
+no_repeats [] distinct = refl
+no_repeats (x ∷ xs) distinct =
+    let others = λ (k d : ℕ) (within : k < length xs). not_from_false (get_or xs k d == x) (ne_eqb (get_or xs k d) x (λ same. distinct 0 (suc k) d (omega arith) (omega arith) (sym same))) in
+    rw (no_repeats xs (λ i j d below within. distinct (suc i) (suc j) d (omega arith) (omega arith))) (ap (λ t. x ∷ t) (kept_all (λ y. not (y == x)) xs others))
 
 -- the names of a ballot are read as the ballot
-ballot_back : (names : List (List ℕ)) (ballot : List ℕ) → Follows names [] ballot → ballot_of names (map (name_at names) ballot) ≡ ballot
-ballot_back names ballot h = cells_back names [] ballot h
+ballot_back : (names : List (List ℕ)) (ballot : List ℕ) → IsReadable names ballot → ballot_of names (map (name_at names) ballot) ≡ ballot
+ballot_back names ballot h = rw (cells_back names ballot h.named) (no_repeats ballot h.distinct)
 
-known_back : (names : List (List ℕ)) (before ballot : List ℕ) → Follows names before ballot → list_any (is_unknown names) (map (name_at names) ballot) ≡ false
-known_back names before [] h = refl
-known_back names before (x ∷ xs) h = rw (h.0.filled, h.0.found) (known_back names (before ++ x ∷ []) xs h.2)
+known_back : (names : List (List ℕ)) (ballot : List ℕ) → All (IsNamed names) ballot → list_any (is_unknown names) (map (name_at names) ballot) ≡ false
+known_back names [] named = refl
+known_back names (x ∷ xs) named =
+    let here = first_all (IsNamed names) x xs named in
+    rw (here.filled, here.found) (known_back names xs (rest_all (IsNamed names) x xs named))
 
 -- the runs can be written and read: not too many ballots, and each with candidates that are named
 abbrev pub Writable : List (List ℕ) → ℕ → List (ℕ × List ℕ) → Type 0
 Writable names before [] = ⊤
-Writable names before (run ∷ runs) = (before + run.0 ≤ 1000000) × Follows names [] run.1 × Writable names (before + run.0) runs
+Writable names before (run ∷ runs) = (before + run.0 ≤ 1000000) × IsReadable names run.1 × Writable names (before + run.0) runs
 
-run_is_good : (names : List (List ℕ)) (before : ℕ) (run : ℕ × List ℕ) → before + run.0 ≤ 1000000 → Follows names [] run.1
+run_is_good : (names : List (List ℕ)) (before : ℕ) (run : ℕ × List ℕ) → before + run.0 ≤ 1000000 → IsReadable names run.1
     → record_fault names before (record_of names run) ≡ None
-run_is_good names before run few named =
+run_is_good names before run few readable =
     let small : run.0 < 2 ^ 64 = omega (arith, few) in
     let some : is_empty (decimal run.0) ≡ false = grind (arith, (decimal_is_IsNumeral run.0 small).0.0) in
     let fits : nat_lt 1000000 (before + run.0) ≡ false = grind (arith, few) in
-    rw (count_back run.0 small, some, known_back names [] run.1 named, fits) refl
+    rw (count_back run.0 small, some, known_back names run.1 readable.named, fits) refl
 
-run_is_back : (names : List (List ℕ)) (run : ℕ × List ℕ) → run.0 < 2 ^ 64 → Follows names [] run.1 → ballots_of names (record_of names run) ≡ replicate run.0 run.1
-run_is_back names run small named =
+run_is_back : (names : List (List ℕ)) (run : ℕ × List ℕ) → run.0 < 2 ^ 64 → IsReadable names run.1 → ballots_of names (record_of names run) ≡ replicate run.0 run.1
+run_is_back names run small readable =
     let some : is_empty (decimal run.0) ≡ false = grind (arith, (decimal_is_IsNumeral run.0 small).0.0) in
-    rw (count_back run.0 small, some) (ap (replicate run.0) (ballot_back names run.1 named))
+    rw (count_back run.0 small, some) (ap (replicate run.0) (ballot_back names run.1 readable))
 
-pub rows_back : (names : List (List ℕ)) (at : ℕ) (before : List (List ℕ)) (runs : List (ℕ × List ℕ)) → Writable names (length before) runs
-    → read_rows names at before (map (record_of names) runs) ≡ Ok (before ++ spread runs)
-rows_back names at before [] h = ap Ok (sym (append-nil before))
-rows_back names at before (run ∷ runs) h =
+-- the records of the runs have no fault
+pub rows_good : (names : List (List ℕ)) (at before : ℕ) (runs : List (ℕ × List ℕ)) → Writable names before runs
+    → rows_fault names at before (map (record_of names) runs) ≡ None
+rows_good names at before [] h = refl
+rows_good names at before (run ∷ runs) h =
     let small : run.0 < 2 ^ 64 = omega (arith, h.0) in
-    let more = before ++ replicate run.0 run.1 in
-    let size : length more ≡ length before + run.0 = length-append before (replicate run.0 run.1) ∙ ap (λ n. length before + n) (length-replicate run.0 run.1) in
-    let rest = rows_back names (at + 1) more runs (rw size h.2) in
-    ap (λ o. unless_fault o at (read_rows names (at + 1) (before ++ ballots_of names (record_of names run)) (map (record_of names) runs))) (run_is_good names (length before) run h.0 h.1)
-    ∙ ap (λ b. read_rows names (at + 1) (before ++ b) (map (record_of names) runs)) (run_is_back names run small h.1)
-    ∙ rest ∙ ap Ok (append_assoc before (replicate run.0 run.1) (spread runs))
+    let size : length (ballots_of names (record_of names run)) ≡ run.0 = ap length (run_is_back names run small h.1) ∙ length-replicate run.0 run.1 in
+    rw (run_is_good names before run h.0 h.1, size) (rows_good names (at + 1) (before + run.0) runs h.2)
+
+-- and add the ballots of the runs
+pub rows_back : (names : List (List ℕ)) (before : ℕ) (runs : List (ℕ × List ℕ)) → Writable names before runs
+    → flat_map (ballots_of names) (map (record_of names) runs) ≡ spread runs
+rows_back names before [] h = refl
+rows_back names before (run ∷ runs) h =
+    let small : run.0 < 2 ^ 64 = omega (arith, h.0) in
+    ap₂ (λ a b. a ++ b) (run_is_back names run small h.1) (rows_back names (before + run.0) runs h.2)

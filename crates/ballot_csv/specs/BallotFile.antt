@@ -1,5 +1,6 @@
 -- What a ballot file says: the names and the ballots of a contest, or its first fault.
-use Rattle.std.specs.Prelude.{ℕ, List, [], ◌∷◌, ◌++◌, ◌+◌, ◌≡◌, ◌≤◌, length, Result, Ok, Err, Option, Some, None, IsOk, MatchResult}
+use Rattle.std.specs.Prelude.{ℕ, List, [], ◌∷◌, ◌+◌, ◌≡◌, ◌≤◌, length, Result, Ok, Err, Option, Some, None, IsOk, MatchResult}
+use Rattle.std.specs.List.{flat_map}
 use Rattle.csv.specs.Reading.{default_config, records}
 use Rattle.ballot_form.specs.Ballots.{Poll}
 use Rattle.ballot_form.specs.declared.contest.Contest.{Contest}
@@ -20,26 +21,34 @@ pub record NamedPoll : Type 0 where
 abbrev pub named_poll_of : Contest → NamedPoll
 named_poll_of contest = record { names = contest.names; poll = contest.roll }
 
--- the fault of this record, or else what the records after it give
-abbrev pub unless_fault : {X : Type 0} → Option BallotKind → ℕ → Result X BallotFault → Result X BallotFault
-unless_fault None at later = later
-unless_fault (Some kind) at later = Err (record { kind = kind; at = at })
+-- the fault of the record with this number, or else a later one
+abbrev pub or_after : Option BallotKind → ℕ → Option BallotFault → Option BallotFault
+or_after None at later = later
+or_after (Some kind) at later = Some (record { kind = kind; at = at })
 
--- the ballots of the records from number `at` on, after those before them, or the first fault
-abbrev pub read_rows : List (List ℕ) → ℕ → List (List ℕ) → List (List (List ℕ)) → Result (List (List ℕ)) BallotFault
-read_rows names at rows [] = Ok rows
-read_rows names at rows (cells ∷ rest) =
-    unless_fault (record_fault names (length rows) cells) at (read_rows names (at + 1) (rows ++ ballots_of names cells) rest)
+-- the first fault of the records from number `at` on, before which so many ballots stand
+abbrev pub rows_fault : List (List ℕ) → ℕ → ℕ → List (List (List ℕ)) → Option BallotFault
+rows_fault names at before [] = None
+rows_fault names at before (cells ∷ rest) =
+    or_after (record_fault names before cells) at (rows_fault names (at + 1) (before + length (ballots_of names cells)) rest)
 
--- the ballots, with the names of their candidates
-abbrev pub with_names : List (List ℕ) → Result (List (List ℕ)) BallotFault → Result NamedPoll BallotFault
-with_names names (Ok rows) = Ok (record { names = names; poll = record { c = length names; rows = rows } })
-with_names names (Err fault) = Err fault
+-- the first fault of a head and of the records below it
+abbrev pub first_fault : List (List ℕ) → List (List (List ℕ)) → Option BallotFault
+first_fault head rest = or_after (head_fault head) 1 (rows_fault (names_of head) 2 0 rest)
+
+-- the names of a head, and the ballots that the records below it add
+abbrev pub contest_of : List (List ℕ) → List (List (List ℕ)) → NamedPoll
+contest_of head rest = record { names = names_of head; poll = record { c = length (names_of head); rows = flat_map (ballots_of (names_of head)) rest } }
+
+-- a contest, if nothing is wrong
+abbrev pub unless_fault : Option BallotFault → NamedPoll → Result NamedPoll BallotFault
+unless_fault None contest = Ok contest
+unless_fault (Some fault) contest = Err fault
 
 -- what the records of a ballot file say, of which the first is the head
 abbrev pub read_records : List (List (List ℕ)) → Result NamedPoll BallotFault
 read_records [] = Err (record { kind = Empty; at = 1 })
-read_records (head ∷ rest) = unless_fault (head_fault head) 1 (with_names (names_of head) (read_rows (names_of head) 2 [] rest))
+read_records (head ∷ rest) = unless_fault (first_fault head rest) (contest_of head rest)
 
 -- what the bytes of a ballot file say
 unfoldable pub read_of : List ℕ → Result NamedPoll BallotFault

@@ -1,10 +1,10 @@
 -- What a record below the head says, where the head has these names.
-use Rattle.std.specs.Prelude.{ℕ, List, [], ◌∷◌, ◌++◌, ◌+◌, ◌==◌, ◌&&◌, Bool, not, length, Option, Some, None, is_none, unwrap_or, if◌then◌else◌, fold, position, replicate, nat_lt}
-use Rattle.std.specs.List.{list_all, list_any}
+use Rattle.std.specs.Prelude.{ℕ, List, [], ◌∷◌, ◌++◌, ◌+◌, ◌==◌, ◌&&◌, Bool, not, length, Option, Some, None, is_none, unwrap_or, if◌then◌else◌, filter, position, replicate, nat_lt}
+use Rattle.std.specs.List.{filter_map, list_all, list_any}
 use Rattle.std.specs.Str.{bytes_eq}
 use Rattle.ballot_csv.specs.Counts.{number_of}
 use Rattle.ballot_csv.specs.declared.fault.BallotKind.{BallotKind}
-use Rattle.ballot_csv.specs.declared.fault.BallotKind.TheVariants.{BadCount, UnknownName, TooManyBallots}
+use Rattle.ballot_csv.specs.declared.fault.BallotKind.TheVariants.{BadCount, TooManyBallots, UnknownName}
 
 abbrev pub is_empty : List ℕ → Bool
 is_empty cell = length cell == 0
@@ -13,20 +13,27 @@ is_empty cell = length cell == 0
 abbrev pub place_of : List (List ℕ) → List ℕ → Option ℕ
 place_of names cell = position (bytes_eq cell) names
 
+-- a cell that isn't empty and no candidate's name
 abbrev pub is_unknown : List (List ℕ) → List ℕ → Bool
 is_unknown names cell = not (is_empty cell) && is_none (place_of names cell)
 
--- a ballot with one candidate more, if it isn't on it yet
-abbrev pub with_place : List ℕ → Option ℕ → List ℕ
-with_place ballot None = ballot
-with_place ballot (Some x) = if list_any (λ y. y == x) ballot then ballot else ballot ++ x ∷ []
+-- the candidate that a cell stands for, if it isn't empty
+abbrev pub candidate_of : List (List ℕ) → List ℕ → Option ℕ
+candidate_of names cell = if is_empty cell then None else place_of names cell
 
-abbrev pub with_cell : List (List ℕ) → List ℕ → List ℕ → List ℕ
-with_cell names ballot cell = if is_empty cell then ballot else with_place ballot (place_of names cell)
+-- each number of a list where it stands first
+abbrev pub without_repeats : List ℕ → List ℕ
+without_repeats [] = []
+without_repeats (x ∷ xs) = x ∷ filter (λ y. not (y == x)) (without_repeats xs)
 
--- the candidates that cells name, each where it stands first
+-- the candidates that cells stand for, each where it stands first
 abbrev pub ballot_of : List (List ℕ) → List (List ℕ) → List ℕ
-ballot_of names cells = fold (with_cell names) [] cells
+ballot_of names cells = without_repeats (filter_map (candidate_of names) cells)
+
+-- a ballot with one candidate more, if there is one that isn't on it yet
+abbrev pub with_candidate : List ℕ → Option ℕ → List ℕ
+with_candidate ballot None = ballot
+with_candidate ballot (Some x) = if list_any (λ y. y == x) ballot then ballot else ballot ++ x ∷ []
 
 abbrev pub count_fault : List (List ℕ) → ℕ → Option ℕ → List (List ℕ) → Option BallotKind
 count_fault names before None cells = Some BadCount

@@ -1,9 +1,11 @@
 // Reads a ballot file: its head, and then record by record onto the roll.
-ghost use Rattle.std.specs.Prelude.{◌≡◌, ◌<◌, ◌^◌, [], ◌∷◌, length, Ok, Err, IfErr, IfOk, OnOk, MatchBool};
+ghost use Rattle.std.specs.Prelude.{◌≡◌, ◌<◌, ◌^◌, [], ◌∷◌, ◌++◌, length, None, Some, IfErr, IfOk, OnOk, MatchBool};
+ghost use Rattle.std.specs.List.{flat_map};
 ghost use Rattle.csv.specs.Records.{fields_of};
 ghost use Rattle.ballot_csv.specs.BallotFile as file;
 ghost use Rattle.ballot_csv.specs.BallotFile.{Gives, read_of};
 ghost use Rattle.ballot_csv.specs.Gives.{OrMemory};
+ghost use Rattle.ballot_csv.specs.OneRecord.{ballots_of};
 ghost use Rattle.ballot_csv.specs.declared.fault.BallotKind.TheVariants as BallotKind;
 
 use crate::fault::{BallotFault, BallotKind};
@@ -61,9 +63,10 @@ fn read_rows(
 ) -> Result<(), BallotFault>
     requires names { length names.now ≡ roll.old.c }
     requires few { length records.old < 2 ^ 63 }
-    ensures rows { OnOk result (file.read_rows names.now 2 roll.old.rows records.old ≡ Ok roll.new.rows) }
+    ensures good { OnOk result (file.rows_fault names.now 2 (length roll.old.rows) records.old ≡ None) }
+    ensures rows { OnOk result (roll.new.rows ≡ roll.old.rows ++ flat_map (ballots_of names.now) records.old) }
     ensures names { OnOk result (roll.new.c ≡ roll.old.c) }
-    ensures err { IfErr result (λ e. OrMemory e.kind (file.read_rows names.now 2 roll.old.rows records.old ≡ Err e)) }
+    ensures err { IfErr result (λ fault. OrMemory fault.kind (file.rows_fault names.now 2 (length roll.old.rows) records.old ≡ Some fault)) }
 {
     let mut row = ByteRecord::new(alloc);
     let mut at = 2u64;
@@ -79,7 +82,7 @@ fn read_rows(
 /// Reads the next record, and tells whether there was one.
 fn has_next(records: &mut Records, row: &mut ByteRecord) -> Result<bool, BallotFault>
     ensures found { IfOk result (λ found. MatchBool found (records.old ≡ fields_of row.new ∷ records.new) (records.old ≡ [])) }
-    ensures err { IfErr result (λ e. e.kind ≡ BallotKind.Memory) }
+    ensures err { IfErr result (λ fault. fault.kind ≡ BallotKind.Memory) }
 {
     match records.read(row) {
         Ok(found) => Ok(found),

@@ -19,3 +19,6 @@ mod records;
 pub use fault::{BallotFault, BallotKind};
 pub use file::read_ballots;
 pub use print::print_ballots;
+
+#[cfg(test)]
+mod tests;

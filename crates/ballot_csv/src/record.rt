@@ -2,7 +2,7 @@
 ghost use Rattle.std.specs.Prelude.{◌≡◌, ◌+◌, ◌++◌, ◌<◌, ◌≤◌, ◌∷◌, [], All, length, drop, fold, None, Some, OnOk, IfOk, IfErr, false, true};
 ghost use Rattle.std.specs.List.{list_all, list_any};
 ghost use Rattle.csv.specs.Records.{fields_of};
-ghost use Rattle.ballot_csv.specs.OneRecord.{ballot_of, ballots_of, is_empty, is_unknown, record_fault, with_cell};
+ghost use Rattle.ballot_csv.specs.OneRecord.{ballot_of, ballots_of, candidate_of, is_empty, is_unknown, record_fault, with_candidate};
 ghost use Rattle.ballot_csv.specs.Gives.{OrMemory};
 ghost use Rattle.ballot_csv.specs.declared.fault.BallotKind.TheVariants as BallotKind;
 
@@ -73,7 +73,7 @@ fn read_ballot(alloc: Global, names: &NameIndex, row: &ByteRecord) -> Result<Ran
 /// Adds the candidate that a cell names, if it isn't on the ballot yet.
 fn add_cell(names: &NameIndex, cell: &[u8], ballot: &mut Ranking) -> Result<(), BallotKind>
     requires { All (λ x. x < length names.now) ballot.old }
-    ensures ballot { OnOk result (ballot.new ≡ with_cell names.now ballot.old cell.now) }
+    ensures ballot { OnOk result (ballot.new ≡ with_candidate ballot.old (candidate_of names.now cell.now)) }
     ensures below { OnOk result (All (λ x. x < length names.now) ballot.new) }
     ensures known { OnOk result (is_unknown names.now cell.now ≡ false) }
     ensures err { IfErr result (λ kind. OrMemory kind ((kind ≡ BallotKind.UnknownName) × (is_unknown names.now cell.now ≡ true))) }

@@ -1,10 +1,13 @@
-use Rattle.std.proofs.Common.{◌≡◌, ◌≤◌, ◌+◌, ◌^◌, length}
+use Rattle.std.proofs.Common.{◌≡◌, ◌≤◌, ◌+◌, ◌++◌, ◌^◌, length}
+use Rattle.std.specs.List.{flat_map}
 use Rattle.ballot_csv.specs.BallotFile as file
+use Rattle.ballot_csv.specs.OneRecord.{ballots_of}
 use Rattle.ballot_csv.proofs.file.read_rows.Given as goal
 
 abbrev pub invariant-loop-row : goal.invariant-loop-row
 invariant-loop-row l = record {
-  rest : file.read_rows l.names l.at l.roll.rows l.records ≡ file.read_rows l.names 2 l.fn.roll.rows l.fn.records;
+  fault : file.rows_fault l.names l.at (length l.roll.rows) l.records ≡ file.rows_fault l.names 2 (length l.fn.roll.rows) l.fn.records;
+  rows : l.roll.rows ++ flat_map (ballots_of l.names) l.records ≡ l.fn.roll.rows ++ flat_map (ballots_of l.names) l.fn.records;
   candidates : l.roll.c ≡ l.fn.roll.c;
   bound : l.at + length l.records ≤ 2 ^ 63 + 2;
 }

@@ -1,0 +1,4 @@
+pub mod Ring
+pub mod Divisors
+pub mod Maps
+pub mod Bounds

@@ -1,0 +1,5 @@
+pub mod Bounds
+pub mod Points
+pub mod Sums
+pub mod Forms
+pub mod Method
