@@ -13,7 +13,7 @@ use Rattle.std.proofs.lemmas.Str.Parse.{digit_from_value}
 use Rattle.ballot_form.specs.Ballots.{AreDistinct}
 use Rattle.ballot_csv.specs.BallotFile.{rows_fault}
 use Rattle.ballot_csv.specs.Counts.{has_leading_zero, is_number, number_of}
-use Rattle.ballot_csv.specs.OneRecord.{ballot_of, ballots_of, candidate_of, is_empty, is_unknown, place_of, record_fault, without_repeats}
+use Rattle.ballot_csv.specs.OneRecord.{ballot_of, ballots_of, candidate_of, is_empty, is_unknown, candidate_named, record_fault, without_repeats}
 use Rattle.ballot_csv.specs.PlainForm.{name_at, record_of, runs_of, with_ballot}
 
 -- the ballots of runs
@@ -67,7 +67,7 @@ first_all P x xs all = all 0 x (omega arith)
 -- the name of a candidate is found at its place
 pub record IsNamed (names : List (List ℕ)) (x : ℕ) : Type 0 where
   pub filled : is_empty (name_at names x) ≡ false
-  pub found : place_of names (name_at names x) ≡ Some x
+  pub found : candidate_named names (name_at names x) ≡ Some x
 
 -- a ballot whose names are read as it
 pub record IsReadable (names : List (List ℕ)) (ballot : List ℕ) : Type 0 where

@@ -10,16 +10,16 @@ abbrev pub is_empty : List ℕ → Bool
 is_empty cell = length cell == 0
 
 -- the number of the candidate whose name a cell is
-abbrev pub place_of : List (List ℕ) → List ℕ → Option ℕ
-place_of names cell = position (bytes_eq cell) names
+abbrev pub candidate_named : List (List ℕ) → List ℕ → Option ℕ
+candidate_named names cell = position (bytes_eq cell) names
 
 -- a cell that isn't empty and no candidate's name
 abbrev pub is_unknown : List (List ℕ) → List ℕ → Bool
-is_unknown names cell = not (is_empty cell) && is_none (place_of names cell)
+is_unknown names cell = not (is_empty cell) && is_none (candidate_named names cell)
 
 -- the candidate that a cell stands for, if it isn't empty
 abbrev pub candidate_of : List (List ℕ) → List ℕ → Option ℕ
-candidate_of names cell = if is_empty cell then None else place_of names cell
+candidate_of names cell = if is_empty cell then None else candidate_named names cell
 
 -- each number of a list where it stands first
 abbrev pub without_repeats : List ℕ → List ℕ

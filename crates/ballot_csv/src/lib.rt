@@ -1,7 +1,10 @@
-//! The ballot file: reads it into a contest, by `csv` over bytes in memory, with the candidates' names found by `indexmap`.
+//! The ballot file: reads it into a contest, and prints a contest in the plain form, by `csv` over bytes in memory, with the
+//! candidates' names found by `indexmap`.
 //!
 //! `read_ballots` answers exactly what the definition of reading in `specs/` says of the file's records: the contest, or the first
-//! fault with the number of its record. The crate stands on `mov_base` and `ballot_form`.
+//! fault with the number of its record. `print_ballots` gives exactly the plain form, and the definition of reading says of it
+//! just the contest that was printed. Want of memory aside, neither has another answer; an error of `csv` is given as want of
+//! memory. The crate stands on `mov_base` and `ballot_form`.
 #![tactic(auto)]
 
 mod cells;

@@ -2,8 +2,9 @@
 ghost use Rattle.std.specs.Prelude.{◌≡◌, [], ◌++◌, ◌∷◌, length, IfOk, IfSome, OnErr, MatchBool, true, false, ◌<◌, ◌≤◌};
 ghost use Rattle.std.specs.List.{list_any};
 ghost use Rattle.std.specs.Str.{bytes_eq};
-ghost use Rattle.ballot_csv.specs.OneRecord.{place_of};
+ghost use Rattle.ballot_csv.specs.OneRecord.{candidate_named};
 
+use ballot_form::Cand;
 use indexmap::IndexSet;
 use mov_base::Memory;
 use std::alloc::Global;
@@ -37,12 +38,12 @@ impl<'a> NameIndex<'a> {
 
     /// The number of the candidate with this name.
     #[tactic(auto, using(crate::proofs::NameFacts::position_of_map))]
-    pub(crate) fn place_of(&self, name: &[u8]) -> Option<u8>
-        ensures place { result ≡ place_of self.now name.now }
+    pub(crate) fn candidate_named(&self, name: &[u8]) -> Option<Cand>
+        ensures candidate { result ≡ candidate_named self.now name.now }
         ensures within { IfSome result (λ i. i < length self.now) }
     {
         match self.names.get_index_of(name) {
-            Some(place) => Some(place as u8),
+            Some(place) => Some(place as Cand),
             None => None,
         }
     }

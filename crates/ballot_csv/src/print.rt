@@ -55,7 +55,7 @@ fn write_runs(
     Ok(())
 }
 
-/// How many ballots, from the one with the number `start + 1` on, are equal to it.
+/// How many equal ballots stand together from the one with the number `start + 1` on.
 fn run_len(roll: &Roll, start: u32) -> u32
     requires { start < length roll.now.rows }
     ensures some { 0 < result }

@@ -81,7 +81,7 @@ fn add_cell(names: &NameIndex, cell: &[u8], ballot: &mut Ranking) -> Result<(), 
     if cell.is_empty() {
         return Ok(());
     }
-    let Some(candidate) = names.place_of(cell) else {
+    let Some(candidate) = names.candidate_named(cell) else {
         return Err(BallotKind::UnknownName);
     };
     if !ballot.as_slice().contains(&candidate) {
