@@ -1,0 +1,6 @@
+pub mod Shapes
+pub mod Places
+pub mod Finding
+pub mod Growing
+pub mod Laws
+pub mod Cuts

@@ -1,0 +1,6 @@
+pub mod Plain
+pub mod Coding
+pub mod Nodes
+pub mod Places
+pub mod Growth
+pub mod Cuts

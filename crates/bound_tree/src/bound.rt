@@ -1,0 +1,248 @@
+// Trees of few nodes and a bounded depth.
+ghost use Rattle.std.specs.Prelude.{◌≡◌, ◌+◌, ◌<◌, ◌≤◌, ◌↔◌, IfOk, IsOk, IsErrOf, IsTrue, OnOk, OnErr, length, map, max, min};
+ghost use Rattle.bound_tree.specs.Plain.{plain_of, Split, Branch, Cut};
+ghost use Rattle.bound_tree.specs.Nodes.{size, height};
+ghost use Rattle.bound_tree.specs.Places.{IsNode, IsCut, IsAtDepth};
+ghost use Rattle.bound_tree.specs.Growth.{replaced, cuts_of};
+ghost use Rattle.bound_tree.specs.declared.tree.Tree.TheVariants as program;
+ghost use Rattle.bound_tree.specs.declared.fault.GrowFault.TheVariants as GrowFault;
+
+use crate::find::find;
+use crate::growth::put;
+use crate::tree::{count, deepest};
+use crate::{GrowFault, MultiplierLists, Multipliers, Tree};
+use mov_base::Memory;
+use row_program::Feature;
+use std::alloc::Global;
+use std::marker::Model;
+use tree_owners::{Many, One};
+
+/// The most nodes of a bound tree.
+pub const MOST_NODES: u32 = 100_000;
+
+/// The greatest depth of a bound tree, where a leaf alone has the depth 1.
+pub const MOST_DEPTH: u32 = 256;
+
+/// A tree of bounds of at most 100,000 nodes and a depth of at most 256. Nodes are numbered from 0 in preorder.
+#[derive(Debug, Drop)]
+pub struct BoundTree {
+    alloc: Global,
+    tree: Tree,
+    nodes: u32,
+    depth: u32,
+}
+
+impl Model for BoundTree {
+    ghost use Rattle.std.specs.Prelude.{◌≡◌, ◌≤◌};
+    ghost use Rattle.bound_tree.specs.Plain.{Plain, plain_of};
+    ghost use Rattle.bound_tree.specs.Coding.{plain_code};
+    ghost use Rattle.bound_tree.specs.Nodes as shape;
+
+    ghost Value = { Plain };
+
+    ghost coded = { plain_code };
+
+    ghost view = { λ bound. plain_of bound.tree };
+
+    ghost invariant = { λ bound.
+        (bound.nodes ≡ shape.size (plain_of bound.tree))
+        × (bound.depth ≡ shape.height (plain_of bound.tree))
+        × (bound.nodes ≤ 100000)
+        × (bound.depth ≤ 256) };
+}
+
+impl BoundTree {
+    /// The tree of one cut. It takes no memory.
+    #[tactic(auto, using(crate::proofs::Shapes::plain_Cut, crate::proofs::Shapes::size_Cut, crate::proofs::Shapes::height_Cut))]
+    pub fn leaf(alloc: Global, multipliers: Multipliers) -> BoundTree
+        ensures { result ≡ Cut multipliers }
+    {
+        BoundTree {
+            alloc,
+            tree: Tree::Cut(multipliers),
+            nodes: 1,
+            depth: 1,
+        }
+    }
+
+    /// Holds a tree. It takes no memory.
+    pub fn from_tree(alloc: Global, tree: Tree) -> BoundTree
+        requires few { size (plain_of tree) ≤ 100000 }
+        requires shallow { height (plain_of tree) ≤ 256 }
+        ensures { result ≡ plain_of tree }
+    {
+        let nodes = count(&tree);
+        let depth = deepest(&tree);
+        BoundTree {
+            alloc,
+            tree,
+            nodes,
+            depth,
+        }
+    }
+
+    /// How many nodes the tree has.
+    pub fn nodes(&self) -> u32
+        ensures count { result ≡ size self.now }
+        ensures few { size self.now ≤ 100000 }
+    {
+        self.nodes
+    }
+
+    /// How deep the tree is: a leaf alone has the depth 1.
+    pub fn depth(&self) -> u32
+        ensures depth { result ≡ height self.now }
+        ensures shallow { height self.now ≤ 256 }
+    {
+        self.depth
+    }
+
+    /// Lends the node with this number, with what is below it.
+    #[tactic(auto, using(crate::proofs::Laws::top_is))]
+    pub fn at(&self, node: u32) -> &Tree
+        requires within { node < size self.now }
+        ensures node { IsNode self.now node (plain_of result.now) }
+        ensures top { node ≡ 0 → plain_of result.now ≡ self.now }
+    {
+        match find(&self.tree, node, 1) {
+            Ok(place) => place.tree,
+            Err(_) => unreachable!(),
+        }
+    }
+
+    /// The depth of the node with this number; the topmost has the depth 1.
+    pub fn node_depth(&self, node: u32) -> u32
+        requires within { node < size self.now }
+        ensures depth { IsAtDepth self.now node result }
+    {
+        match find(&self.tree, node, 1) {
+            Ok(place) => place.depth,
+            Err(_) => unreachable!(),
+        }
+    }
+
+    /// Replaces a cut by a split of cuts with these multipliers, in their order. After a fault the kids are dropped.
+    #[tactic(auto, using(crate::proofs::Laws::cut_within, crate::proofs::Laws::split_of_cuts, crate::proofs::Laws::size_split, crate::proofs::Laws::height_split))]
+    pub fn grow_split(&mut self, node: u32, kids: MultiplierLists) -> Result<(), GrowFault>
+        requires cut { IsCut self.old node }
+        ensures grown { OnOk result (self.new ≡ replaced node (Split (cuts_of kids)) self.old) }
+        ensures nodes { OnOk result (size self.new ≡ size self.old + length kids) }
+        ensures too_many { IsErrOf result GrowFault.TooManyNodes ↔ (100000 < size self.old + length kids) }
+        ensures too_deep { IsErrOf result GrowFault.TooDeep
+            ↔ (size self.old + length kids ≤ 100000) × (0 < length kids) × IsAtDepth self.old node 256 }
+        ensures unchanged { OnErr result (self.new ≡ self.old) }
+    {
+        let more = kids.len();
+        check_room(&self.tree, self.nodes, self.depth, node, more)?;
+        let cuts = cuts(self.alloc, kids)?;
+        self.exchange(node, Tree::Split(cuts), more as u32);
+        Ok(())
+    }
+
+    /// Replaces a cut by a branch of two cuts with these multipliers. After a fault the two are dropped.
+    #[tactic(auto, using(crate::proofs::Laws::cut_within, crate::proofs::Laws::branch_of_cuts, crate::proofs::Laws::size_branch, crate::proofs::Laws::height_branch))]
+    pub fn grow_branch(
+        &mut self,
+        node: u32,
+        feature: Feature,
+        value: u32,
+        low: Multipliers,
+        high: Multipliers,
+    ) -> Result<(), GrowFault>
+        requires cut { IsCut self.old node }
+        ensures grown { OnOk result (self.new ≡ replaced node (Branch feature value (Cut low) (Cut high)) self.old) }
+        ensures nodes { OnOk result (size self.new ≡ size self.old + 2) }
+        ensures too_many { IsErrOf result GrowFault.TooManyNodes ↔ (100000 < size self.old + 2) }
+        ensures too_deep { IsErrOf result GrowFault.TooDeep
+            ↔ (size self.old + 2 ≤ 100000) × IsAtDepth self.old node 256 }
+        ensures unchanged { OnErr result (self.new ≡ self.old) }
+    {
+        check_room(&self.tree, self.nodes, self.depth, node, 2)?;
+        let low = One::new(self.alloc, Tree::Cut(low))?;
+        let high = One::new(self.alloc, Tree::Cut(high))?;
+        self.exchange(node, Tree::Branch(feature, value, low, high), 2);
+        Ok(())
+    }
+
+    /// Puts a node with so many cuts below it in the place of a cut.
+    fn exchange(&mut self, node: u32, new: Tree, more: u32)
+        requires cut { IsCut self.old node }
+        requires size { size (plain_of new) ≡ 1 + more }
+        requires height { height (plain_of new) ≡ 1 + min more 1 }
+        requires few { size self.old + more ≤ 100000 }
+        requires shallow { 0 < more → IsAtDepth self.old node 256 → ⊥ }
+        ensures grown { self.new ≡ replaced node (plain_of new) self.old }
+        ensures nodes { size self.new ≡ size self.old + more }
+    {
+        let depth = put_at(&mut self.tree, node, new);
+        self.nodes += more;
+        self.depth = self.depth.max(depth + more.min(1));
+    }
+}
+
+/// Puts `new` in the place of a cut, drops the cut, and gives its depth.
+#[tactic(auto, using(crate::proofs::Laws::cut_within, crate::proofs::Laws::depth_within, crate::proofs::Laws::size_grown, crate::proofs::Laws::height_grown))]
+fn put_at(tree: &mut Tree, node: u32, new: Tree) -> u32
+    requires cut { IsCut (plain_of tree.old) node }
+    requires shallow { height (plain_of tree.old) ≤ 256 }
+    ensures grown { plain_of tree.new ≡ replaced node (plain_of new) (plain_of tree.old) }
+    ensures depth { IsAtDepth (plain_of tree.old) node result }
+    ensures within { result ≤ height (plain_of tree.old) }
+    ensures size { size (plain_of tree.new) + 1 ≡ size (plain_of tree.old) + size (plain_of new) }
+    ensures height { height (plain_of tree.new) + 1 ≡ max (height (plain_of tree.old) + 1) (result + height (plain_of new)) }
+{
+    let mut swapped = new;
+    match put(tree, node, 1, &mut swapped) {
+        Ok(depth) => depth,
+        Err(_) => unreachable!(),
+    }
+}
+
+/// The fault of a growth by so many kids of a cut, in a tree of so many nodes and of this depth, if there is one.
+fn check_room(tree: &Tree, nodes: u32, depth: u32, node: u32, more: usize) -> Result<(), GrowFault>
+    requires cut { IsCut (plain_of tree.now) node }
+    requires nodes { nodes ≡ size (plain_of tree.now) }
+    requires depth { depth ≡ height (plain_of tree.now) }
+    requires few { nodes ≤ 100000 }
+    requires shallow { depth ≤ 256 }
+    ensures too_many { IsErrOf result GrowFault.TooManyNodes ↔ (100000 < nodes + more) }
+    ensures too_deep { IsErrOf result GrowFault.TooDeep
+        ↔ (nodes + more ≤ 100000) × (0 < more) × IsAtDepth (plain_of tree.now) node 256 }
+    ensures no_memory { IsErrOf result GrowFault.Memory → ⊥ }
+{
+    if more > (MOST_NODES - nodes) as usize {
+        return Err(GrowFault::TooManyNodes);
+    }
+    if more > 0 && stands_lowest(tree, depth, node) {
+        return Err(GrowFault::TooDeep);
+    }
+    Ok(())
+}
+
+/// Whether a cut stands at the greatest depth, in a tree of this depth. Where the tree isn't so deep, it isn't walked.
+#[tactic(auto, using(crate::proofs::Laws::cut_within, crate::proofs::Laws::depth_within))]
+fn stands_lowest(tree: &Tree, depth: u32, node: u32) -> bool
+    requires cut { IsCut (plain_of tree.now) node }
+    requires depth { depth ≡ height (plain_of tree.now) }
+    requires shallow { depth ≤ 256 }
+    ensures { IsTrue result ↔ IsAtDepth (plain_of tree.now) node 256 }
+{
+    if depth < MOST_DEPTH {
+        return false;
+    }
+    match find(tree, node, 1) {
+        Ok(place) => place.depth == MOST_DEPTH,
+        Err(_) => unreachable!(),
+    }
+}
+
+/// Cuts with these multipliers.
+fn cuts(alloc: Global, kids: MultiplierLists) -> Result<Many<Tree>, Memory>
+    ensures { IfOk result (λ cuts. cuts ≡ map program.Cut kids) }
+{
+    let mut cuts = Vec::with_capacity(alloc, kids.len())?;
+    for multipliers in kids.into_vec() {
+        cuts.push(Tree::Cut(multipliers))?;
+    }
+    Ok(Many::from_vec(cuts))
+}

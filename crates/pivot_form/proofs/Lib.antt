@@ -1,0 +1,5 @@
+pub mod Sums
+pub mod Equations
+pub mod FirstForm
+pub mod Pivots
+pub mod NextForm

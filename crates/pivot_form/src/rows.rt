@@ -1,0 +1,132 @@
+// One equation at a pivot.
+ghost use Rattle.std.specs.Prelude.{◌≡◌, ◌<◌, ◌≤◌, ◌^◌, ℤ, pos, ◌<ℤ◌, ◌≢◌, unsigned_abs, length, MatchResult, Some, None, slice_index_or, if◌then◌else◌, map};
+ghost use Rattle.std.specs.List.{All};
+ghost use lib.IntN.{neg_ℤ};
+ghost use Rattle.exact_num.specs.Divisors.{IsPrimitive};
+ghost use Rattle.row_program.specs.Forms.{combination, eliminated, first_large, turned};
+ghost use Rattle.pivot_form.specs.Invariant.{IsEquation};
+
+use crate::Wide;
+use exact_num::{cross, reduce_row};
+
+/// Writes p times the row less q times the lead.
+fn combine(out: &mut [i128], p: i64, row: &[i64], q: i64, lead: &[i64])
+    requires same_row { length row.now ≡ length out.old }
+    requires same_lead { length lead.now ≡ length out.old }
+    requires small_p { unsigned_abs p < 2 ^ 63 }
+    requires small_q { unsigned_abs q < 2 ^ 63 }
+    requires small_row { All (λ x. unsigned_abs x < 2 ^ 63) row.now }
+    requires small_lead { All (λ x. unsigned_abs x < 2 ^ 63) lead.now }
+    ensures { out.new ≡ combination p row.now q lead.now }
+{
+    for (i, place) in out.iter_mut().enumerate() {
+        *place = cross(p, row[i], q, lead[i]);
+    }
+}
+
+/// The size of the first entry of 63 bits or more.
+fn find_large(row: &[i128]) -> Option<u128>
+    ensures { result ≡ first_large row.now }
+{
+    for x in row {
+        let size = x.unsigned_abs();
+        if size >= 1 << 63 {
+            return Some(size);
+        }
+    }
+    None
+}
+
+/// Copies the wide entries, none of which is large.
+fn store(row: &mut [i64], wide: &[i128])
+    requires same { length wide.now ≡ length row.old }
+    requires small { All (λ x. unsigned_abs x < 2 ^ 63) wide.now }
+    ensures { row.new ≡ wide.now }
+{
+    for (i, place) in row.iter_mut().enumerate() {
+        *place = wide[i] as i64;
+    }
+}
+
+/// Clears the row in the column by the lead.
+fn eliminate(row: &mut [i64], lead: &[i64], column: usize, scratch: &mut [i128]) -> Result<(), Wide>
+    requires same_lead { length lead.now ≡ length row.old }
+    requires same_scratch { length scratch.old ≡ length row.old }
+    requires within { column < length row.old }
+    requires small_row { All (λ x. unsigned_abs x < 2 ^ 63) row.old }
+    requires small_lead { All (λ x. unsigned_abs x < 2 ^ 63) lead.now }
+    ensures value { MatchResult result (λ _. (row.new ≡ eliminated column row.old lead.now) × (first_large (eliminated column row.old lead.now) ≡ None))
+        (λ e. first_large (eliminated column row.old lead.now) ≡ Some e.size) }
+{
+    combine(scratch, lead[column], row, row[column], lead);
+    reduce_row(scratch);
+    match find_large(scratch) {
+        Some(size) => Err(Wide { size }),
+        None => {
+            store(row, scratch);
+            Ok(())
+        }
+    }
+}
+
+/// Puts the lead in the pivot's row, and clears another in the column by it. A row that is cleared already stays.
+pub(crate) fn renew(
+    row: &mut [i64],
+    at_place: bool,
+    lead: &[i64],
+    column: usize,
+    scratch: &mut [i128],
+) -> Result<(), Wide>
+    requires same_lead { length lead.now ≡ length row.old }
+    requires same_scratch { length scratch.old ≡ length row.old }
+    requires within { column < length row.old }
+    requires small_row { All (λ x. unsigned_abs x < 2 ^ 63) row.old }
+    requires small_lead { All (λ x. unsigned_abs x < 2 ^ 63) lead.now }
+    requires primitive { IsPrimitive row.old }
+    requires positive { pos 0 <ℤ slice_index_or lead.now column (pos 0) }
+    ensures value { MatchResult result (λ _. (row.new ≡ (if at_place then lead.now else eliminated column row.old lead.now)) × (first_large (if at_place then lead.now else eliminated column row.old lead.now) ≡ None))
+        (λ e. first_large (if at_place then lead.now else eliminated column row.old lead.now) ≡ Some e.size) }
+{
+    if at_place {
+        row.copy_from_slice(lead);
+        Ok(())
+    } else if row[column] == 0 {
+        Ok(())
+    } else {
+        eliminate(row, lead, column, scratch)
+    }
+}
+
+/// Copies the row, turned so that its entry in the column is positive.
+pub(crate) fn turn(lead: &mut [i64], row: &[i64], column: usize)
+    requires same { length lead.old ≡ length row.now }
+    requires within { column < length row.now }
+    requires small { All (λ x. unsigned_abs x < 2 ^ 63) row.now }
+    requires nonzero { slice_index_or row.now column (pos 0) ≢ pos 0 }
+    ensures value { lead.new ≡ turned column row.now }
+    ensures small { All (λ x. unsigned_abs x < 2 ^ 63) lead.new }
+    ensures positive { pos 0 <ℤ slice_index_or lead.new column (pos 0) }
+{
+    lead.copy_from_slice(row);
+    if row[column] < 0 {
+        negate(lead);
+    }
+}
+
+/// Turns the sign of each entry.
+fn negate(row: &mut [i64])
+    requires { All (λ x. unsigned_abs x < 2 ^ 63) row.old }
+    ensures { row.new ≡ map neg_ℤ row.old }
+{
+    for x in row.iter_mut() {
+        *x = opposite(*x);
+    }
+}
+
+/// The number with the other sign.
+pub(crate) fn opposite(x: i64) -> i64
+    requires { unsigned_abs x < 2 ^ 63 }
+    ensures { result ≡ neg_ℤ x }
+{
+    -x
+}
