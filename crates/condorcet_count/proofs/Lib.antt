@@ -1,0 +1,4 @@
+pub mod Cells
+pub mod Choices
+pub mod Counted
+pub mod Places

@@ -1,0 +1,123 @@
+-- The places of candidates on the first part of a ballot.
+use Rattle.std.proofs.Common.{ℕ, zero, suc, List, [], ◌∷◌, Option, Some, None, Bool, true, false, ◌≡◌, ◌<◌, ◌≤◌, ◌+◌, ◌∙◌, take, length, cond, get_or, arith, ap, sym, refl, inl, inr}
+use Rattle.std.specs.Prelude.{◌==◌, ◌&&◌, option_map, is_some}
+use Rattle.std.proofs.lemmas.Bool.{cases_eq}
+use Rattle.std.proofs.lemmas.Bool.Decides.{nat_tests}
+use Rattle.ballot_form.specs.Ballots.{AreDistinct}
+use Rattle.ballot_form.specs.Scores.{place_of}
+use Rattle.condorcet_count.specs.Behind.{comes_after, is_behind, is_on}
+use Rattle.condorcet_count.specs.Preferences.{comes_before, prefers}
+
+-- the first place, or else the second
+abbrev pub or_else : Option ℕ → Option ℕ → Option ℕ
+or_else None o = o
+or_else (Some n) o = Some n
+
+later : (a : Option ℕ) (t : Bool) (n : ℕ) → option_map suc (or_else a (cond t (Some n) None)) ≡ or_else (option_map suc a) (cond t (Some (suc n)) None)
+later (Some m) t n = refl
+later None true n = refl
+later None false n = refl
+
+-- one more place
+pub place_more : (row : List ℕ) (i y : ℕ) → i < length row → place_of y (take (suc i) row) ≡ or_else (place_of y (take i row)) (cond (get_or row i 0 == y) (Some (suc i)) None)
+place_more [] i y within = absurd (omega arith)
+place_more (z ∷ zs) zero y within = refl
+place_more (z ∷ zs) (suc i) y within = here (z == y) (ap (option_map suc) (place_more zs i y (omega arith)) ∙ later (place_of y (take i zs)) (get_or zs i 0 == y) (suc i))
+  where
+    here : (t : Bool) → option_map suc (place_of y (take (suc i) zs)) ≡ or_else (option_map suc (place_of y (take i zs))) (cond (get_or zs i 0 == y) (Some (suc (suc i))) None)
+        → cond t (Some 1) (option_map suc (place_of y (take (suc i) zs))) ≡ or_else (cond t (Some 1) (option_map suc (place_of y (take i zs)))) (cond (get_or zs i 0 == y) (Some (suc (suc i))) None)
+    here true rest = refl
+    here false rest = rest
+
+-- a candidate that stands nowhere has no place
+no_place : (row : List ℕ) (y : ℕ) → ((k : ℕ) → k < length row → get_or row k 0 ≡ y → ⊥) → place_of y row ≡ None
+no_place [] y nowhere = refl
+no_place (z ∷ zs) y nowhere = elim (cases_eq z y) [
+  | inl e ↦ absurd (nowhere 0 (omega arith) e)
+  | inr ne ↦
+      let t : (z == y) ≡ false = grind (arith, nat_tests) in
+      rw (t, no_place zs y (λ k lt e. nowhere (suc k) (omega arith) e)) refl
+]
+
+take_here : (row : List ℕ) (i k : ℕ) → k < i → get_or (take i row) k 0 ≡ get_or row k 0
+take_here [] zero k lt = absurd (omega arith)
+take_here [] (suc i) k lt = refl
+take_here (z ∷ zs) zero k lt = absurd (omega arith)
+take_here (z ∷ zs) (suc i) zero lt = refl
+take_here (z ∷ zs) (suc i) (suc k) lt = take_here zs i k (omega arith)
+
+length_here : (row : List ℕ) (i : ℕ) → length (take i row) ≤ i
+length_here [] zero = omega arith
+length_here [] (suc i) = omega arith
+length_here (z ∷ zs) zero = omega arith
+length_here (z ∷ zs) (suc i) = omega (arith, length_here zs i)
+
+-- who stands at a place stands nowhere before it
+not_before : (row : List ℕ) (i y : ℕ) → AreDistinct row → i < length row → (get_or row i 0 == y) ≡ true → place_of y (take i row) ≡ None
+not_before row i y distinct within at =
+    let e : get_or row i 0 ≡ y = grind (arith, nat_tests) in
+    no_place (take i row) y (λ k lt same.
+    let below : k < i = omega (arith, length_here row i) in
+    distinct k i 0 below within (sym (take_here row i k below) ∙ same ∙ sym e))
+
+-- a place that is at most so much, if there is one
+abbrev pub AtMost : ℕ → Option ℕ → Type 0
+AtMost n None = Unit {0}
+AtMost n (Some r) = r ≤ n
+
+at_most_suc : (n : ℕ) (o : Option ℕ) → AtMost n o → AtMost (suc n) (option_map suc o)
+at_most_suc n None h = tt
+at_most_suc n (Some r) h = omega arith
+
+at_most_here : (t : Bool) (n : ℕ) (o : Option ℕ) → AtMost (suc n) o → AtMost (suc n) (cond t (Some 1) o)
+at_most_here true n o h = omega arith
+at_most_here false n o h = h
+
+place_at_most : (row : List ℕ) (i y : ℕ) → AtMost i (place_of y (take i row))
+place_at_most [] zero y = tt
+place_at_most [] (suc i) y = tt
+place_at_most (z ∷ zs) zero y = tt
+place_at_most (z ∷ zs) (suc i) y = at_most_here (z == y) i (option_map suc (place_of y (take i zs))) (at_most_suc i (place_of y (take i zs)) (place_at_most zs i y))
+
+-- one more place of an upto list
+on_step : (t : Bool) (o : Option ℕ) (u : Bool) (n : ℕ) → (u ≡ true → o ≡ None) → cond (t && is_some (or_else o (cond u (Some n) None))) 1 0 ≡ cond (t && is_some o) 1 0 + cond (t && u) 1 0
+on_step false o u n once = refl
+on_step true o true n once = rw (once refl) refl
+on_step true None false n once = refl
+on_step true (Some m) false n once = refl
+
+pub on_more : (row : List ℕ) (i y : ℕ) (t : Bool) → AreDistinct row → i < length row
+    → cond (t && is_on (take (i + 1) row) y) 1 0 ≡ cond (t && is_on (take i row) y) 1 0 + cond (t && (get_or row i 0 == y)) 1 0
+on_more row i y t distinct within =
+    let s : i + 1 ≡ suc i = omega arith in
+    rw (s, place_more row i y within) (on_step t (place_of y (take i row)) (get_or row i 0 == y) (suc i) (not_before row i y distinct within))
+
+-- one more place of a ballot
+behind_step : (n : ℕ) (oa ob : Option ℕ) (t u : Bool) → AtMost n oa → AtMost n ob → (t ≡ true → oa ≡ None) → (u ≡ true → ob ≡ None)
+    → cond (comes_after (or_else oa (cond t (Some (suc n)) None)) (or_else ob (cond u (Some (suc n)) None))) 1 0
+    ≡ cond (comes_after oa ob) 1 0 + cond (t && is_some (or_else ob (cond u (Some (suc n)) None))) 1 0
+behind_step n oa ob true true la lb na nb = rw (na refl, nb refl) (grind (arith, nat_tests))
+behind_step n oa None true false la lb na nb = rw (na refl) refl
+behind_step n oa (Some q) true false la lb na nb = rw (na refl) (grind (arith, nat_tests))
+behind_step n None ob false true la lb na nb = refl
+behind_step n (Some r) ob false true la lb na nb = rw (nb refl) (grind (arith, nat_tests))
+behind_step n None ob false false la lb na nb = refl
+behind_step n (Some r) None false false la lb na nb = refl
+behind_step n (Some r) (Some q) false false la lb na nb = omega arith
+
+pub behind_more : (row : List ℕ) (i x y : ℕ) → AreDistinct row → i < length row
+    → cond (is_behind (take (i + 1) row) x y) 1 0 ≡ cond (is_behind (take i row) x y) 1 0 + cond ((get_or row i 0 == x) && is_on (take (i + 1) row) y) 1 0
+behind_more row i x y distinct within =
+    let s : i + 1 ≡ suc i = omega arith in
+    rw (s, place_more row i x within, place_more row i y within)
+    (behind_step i (place_of x (take i row)) (place_of y (take i row)) (get_or row i 0 == x) (get_or row i 0 == y) (place_at_most row i x) (place_at_most row i y)
+    (not_before row i x distinct within) (not_before row i y distinct within))
+
+-- a ballot that ranks x prefers it to y, or has y no later
+one_of_both : (o other : Option ℕ) → cond (comes_before o other) 1 0 + cond (comes_after o other) 1 0 ≡ cond (comes_after o o) 1 0
+one_of_both None other = refl
+one_of_both (Some r) None = grind (arith, nat_tests)
+one_of_both (Some r) (Some q) = grind (arith, nat_tests)
+
+pub prefers_or_behind : (row : List ℕ) (x y : ℕ) → cond (prefers row x y) 1 0 + cond (is_behind row x y) 1 0 ≡ cond (is_behind row x x) 1 0
+prefers_or_behind row x y = one_of_both (place_of x row) (place_of y row)
