@@ -13,20 +13,20 @@ use Rattle.bound_tree.specs.Growth.{replaced, replaced_in, cuts_of}
 use Rattle.bound_tree.proofs.Shapes.{plain_Split, plain_Branch, plain_Cut}
 use Rattle.bound_tree.proofs.Places.{place_top, get_left, get_right, length_nodes, length_depths}
 
-same_some : {X : Type 0} (x y : X) → Some x ≡ Some y → x ≡ y
+pub same_some : {X : Type 0} (x y : X) → Some x ≡ Some y → x ≡ y
 same_some x y e = cc
 
 -- where a node stands in what a node has below it
-split_place : (kids : Kids) (d n : ℕ) (sub : Plain) (e : ℕ) → IsPlace (Split kids) d (suc n) sub e → IsPlaceIn kids (suc d) n sub e
+pub split_place : (kids : Kids) (d n : ℕ) (sub : Plain) (e : ℕ) → IsPlace (Split kids) d (suc n) sub e → IsPlaceIn kids (suc d) n sub e
 split_place kids d n sub e at = record { node = at.node; deep = at.deep }
 
-low_place : (f : Feature) (v : ℕ) (low high : Plain) (d n : ℕ) (sub : Plain) (e : ℕ) → n < size low → IsPlace (Branch f v low high) d (suc n) sub e → IsPlace low (suc d) n sub e
+pub low_place : (f : Feature) (v : ℕ) (low high : Plain) (d n : ℕ) (sub : Plain) (e : ℕ) → n < size low → IsPlace (Branch f v low high) d (suc n) sub e → IsPlace low (suc d) n sub e
 low_place f v low high d n sub e within at = record {
   node = sym (get_left (nodes_of low) (nodes_of high) n (omega (arith, length_nodes low))) ∙ at.node;
   deep = sym (get_left (depths (suc d) low) (depths (suc d) high) n (omega (arith, length_depths (suc d) low))) ∙ at.deep;
 }
 
-high_place : (f : Feature) (v : ℕ) (low high : Plain) (d n : ℕ) (sub : Plain) (e : ℕ) → size low ≤ n → IsPlace (Branch f v low high) d (suc n) sub e → IsPlace high (suc d) (n - size low) sub e
+pub high_place : (f : Feature) (v : ℕ) (low high : Plain) (d n : ℕ) (sub : Plain) (e : ℕ) → size low ≤ n → IsPlace (Branch f v low high) d (suc n) sub e → IsPlace high (suc d) (n - size low) sub e
 high_place f v low high d n sub e past at =
     let nodes_at : n ≡ length (nodes_of low) + (n - size low) = omega (arith, length_nodes low) in
     let depths_at : n ≡ length (depths (suc d) low) + (n - size low) = omega (arith, length_depths (suc d) low) in
@@ -35,13 +35,13 @@ high_place f v low high d n sub e past at =
       deep = sym (ap (slice_get (depths (suc d) low ++ depths (suc d) high)) depths_at ∙ get_right (depths (suc d) low) (depths (suc d) high) (n - size low)) ∙ at.deep;
     }
 
-first_place : (kid : Plain) (kids : Kids) (d n : ℕ) (sub : Plain) (e : ℕ) → n < size kid → IsPlaceIn (More kid kids) d n sub e → IsPlace kid d n sub e
+pub first_place : (kid : Plain) (kids : Kids) (d n : ℕ) (sub : Plain) (e : ℕ) → n < size kid → IsPlaceIn (More kid kids) d n sub e → IsPlace kid d n sub e
 first_place kid kids d n sub e within at = record {
   node = sym (get_left (nodes_of kid) (nodes_of_all kids) n (omega (arith, length_nodes kid))) ∙ at.node;
   deep = sym (get_left (depths d kid) (depths_all d kids) n (omega (arith, length_depths d kid))) ∙ at.deep;
 }
 
-rest_place : (kid : Plain) (kids : Kids) (d n : ℕ) (sub : Plain) (e : ℕ) → size kid ≤ n → IsPlaceIn (More kid kids) d n sub e → IsPlaceIn kids d (n - size kid) sub e
+pub rest_place : (kid : Plain) (kids : Kids) (d n : ℕ) (sub : Plain) (e : ℕ) → size kid ≤ n → IsPlaceIn (More kid kids) d n sub e → IsPlaceIn kids d (n - size kid) sub e
 rest_place kid kids d n sub e past at =
     let nodes_at : n ≡ length (nodes_of kid) + (n - size kid) = omega (arith, length_nodes kid) in
     let depths_at : n ≡ length (depths d kid) + (n - size kid) = omega (arith, length_depths d kid) in
@@ -50,7 +50,7 @@ rest_place kid kids d n sub e past at =
       deep = sym (ap (slice_get (depths d kid ++ depths_all d kids)) depths_at ∙ get_right (depths d kid) (depths_all d kids) (n - size kid)) ∙ at.deep;
     }
 
-nowhere : {X : Type 0} (x y : X) (n : ℕ) → slice_get (x ∷ []) (suc n) ≡ Some y → ⊥
+pub nowhere : {X : Type 0} (x y : X) (n : ℕ) → slice_get (x ∷ []) (suc n) ≡ Some y → ⊥
 nowhere x y n at = omega (arith, slice_get_within (x ∷ []) (suc n) y at)
 
 -- a tree gains what is put in, and loses what stood there

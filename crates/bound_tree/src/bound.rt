@@ -1,8 +1,9 @@
 // Trees of few nodes and a bounded depth.
-ghost use Rattle.std.specs.Prelude.{◌≡◌, ◌+◌, ◌<◌, ◌≤◌, ◌↔◌, IfOk, IsOk, IsErrOf, IsTrue, OnOk, OnErr, length, map, max, min};
+ghost use Rattle.std.specs.Prelude.{◌≡◌, ◌+◌, ◌<◌, ◌≤◌, ◌↔◌, IfOk, IsOk, IsErrOf, IsTrue, OnOk, OnErr, [], ◌∷◌, ◌++◌, length, map, take, drop, max, min};
 ghost use Rattle.bound_tree.specs.Plain.{plain_of, Split, Branch, Cut};
 ghost use Rattle.bound_tree.specs.Nodes.{size, height};
 ghost use Rattle.bound_tree.specs.Places.{IsNode, IsCut, IsAtDepth};
+ghost use Rattle.bound_tree.specs.Lines.{lines_of, SplitInto, BranchBy, CutWith};
 ghost use Rattle.bound_tree.specs.Growth.{replaced, cuts_of};
 ghost use Rattle.bound_tree.specs.declared.tree.Tree.TheVariants as program;
 ghost use Rattle.bound_tree.specs.declared.fault.GrowFault.TheVariants as GrowFault;
@@ -122,10 +123,12 @@ impl BoundTree {
     }
 
     /// Replaces a cut by a split of cuts with these multipliers, in their order. After a fault the kids are dropped.
-    #[tactic(auto, using(crate::proofs::Laws::cut_within, crate::proofs::Laws::split_of_cuts, crate::proofs::Laws::size_split, crate::proofs::Laws::height_split))]
+    #[tactic(auto, using(crate::proofs::Laws::cut_within, crate::proofs::Laws::split_of_cuts, crate::proofs::LineLaws::lines_split, crate::proofs::Laws::size_split, crate::proofs::Laws::height_split))]
     pub fn grow_split(&mut self, node: u32, kids: MultiplierLists) -> Result<(), GrowFault>
         requires cut { IsCut self.old node }
         ensures grown { OnOk result (self.new ≡ replaced node (Split (cuts_of kids)) self.old) }
+        ensures lines { OnOk result (lines_of self.new
+            ≡ take node (lines_of self.old) ++ ((SplitInto (length kids) ∷ map CutWith kids) ++ drop (node + 1) (lines_of self.old))) }
         ensures nodes { OnOk result (size self.new ≡ size self.old + length kids) }
         ensures too_many { IsErrOf result GrowFault.TooManyNodes ↔ (100000 < size self.old + length kids) }
         ensures too_deep { IsErrOf result GrowFault.TooDeep
@@ -140,7 +143,7 @@ impl BoundTree {
     }
 
     /// Replaces a cut by a branch of two cuts with these multipliers. After a fault the two are dropped.
-    #[tactic(auto, using(crate::proofs::Laws::cut_within, crate::proofs::Laws::branch_of_cuts, crate::proofs::Laws::size_branch, crate::proofs::Laws::height_branch))]
+    #[tactic(auto, using(crate::proofs::Laws::cut_within, crate::proofs::Laws::branch_of_cuts, crate::proofs::LineLaws::lines_branch, crate::proofs::Laws::size_branch, crate::proofs::Laws::height_branch))]
     pub fn grow_branch(
         &mut self,
         node: u32,
@@ -151,6 +154,8 @@ impl BoundTree {
     ) -> Result<(), GrowFault>
         requires cut { IsCut self.old node }
         ensures grown { OnOk result (self.new ≡ replaced node (Branch feature value (Cut low) (Cut high)) self.old) }
+        ensures lines { OnOk result (lines_of self.new
+            ≡ take node (lines_of self.old) ++ ((BranchBy feature value ∷ CutWith low ∷ CutWith high ∷ []) ++ drop (node + 1) (lines_of self.old))) }
         ensures nodes { OnOk result (size self.new ≡ size self.old + 2) }
         ensures too_many { IsErrOf result GrowFault.TooManyNodes ↔ (100000 < size self.old + 2) }
         ensures too_deep { IsErrOf result GrowFault.TooDeep
@@ -172,6 +177,7 @@ impl BoundTree {
         requires few { size self.old + more ≤ 100000 }
         requires shallow { 0 < more → IsAtDepth self.old node 256 → ⊥ }
         ensures grown { self.new ≡ replaced node (plain_of new) self.old }
+        ensures lines { lines_of self.new ≡ take node (lines_of self.old) ++ (lines_of (plain_of new) ++ drop (node + 1) (lines_of self.old)) }
         ensures nodes { size self.new ≡ size self.old + more }
     {
         let depth = put_at(&mut self.tree, node, new);
@@ -181,13 +187,15 @@ impl BoundTree {
 }
 
 /// Puts `new` in the place of a cut, drops the cut, and gives its depth.
-#[tactic(auto, using(crate::proofs::Laws::cut_within, crate::proofs::Laws::depth_within, crate::proofs::Laws::size_grown, crate::proofs::Laws::height_grown))]
+#[tactic(auto, using(crate::proofs::Laws::cut_within, crate::proofs::Laws::depth_within, crate::proofs::LineLaws::lines_grown, crate::proofs::Laws::size_grown, crate::proofs::Laws::height_grown))]
 fn put_at(tree: &mut Tree, node: u32, new: Tree) -> u32
     requires cut { IsCut (plain_of tree.old) node }
     requires shallow { height (plain_of tree.old) ≤ 256 }
     ensures grown { plain_of tree.new ≡ replaced node (plain_of new) (plain_of tree.old) }
     ensures depth { IsAtDepth (plain_of tree.old) node result }
     ensures within { result ≤ height (plain_of tree.old) }
+    ensures lines { lines_of (plain_of tree.new)
+        ≡ take node (lines_of (plain_of tree.old)) ++ (lines_of (plain_of new) ++ drop (node + 1) (lines_of (plain_of tree.old))) }
     ensures size { size (plain_of tree.new) + 1 ≡ size (plain_of tree.old) + size (plain_of new) }
     ensures height { height (plain_of tree.new) + 1 ≡ max (height (plain_of tree.old) + 1) (result + height (plain_of new)) }
 {

@@ -1,5 +1,5 @@
 -- The greatest common divisor of two numbers and of a row.
-use Rattle.std.proofs.Common.{ℕ, zero, suc, ◌≡◌, ◌<◌, ◌+◌, ◌*◌, ◌%◌, ◌/◌, arith, refl, ap, sym, ◌∙◌, List, [], ◌∷◌, length, get_or, map, subst}
+use Rattle.std.proofs.Common.{ℕ, zero, suc, ◌≡◌, ◌<◌, ◌+◌, ◌*◌, ◌%◌, ◌/◌, arith, refl, ap, sym, ◌∙◌, List, [], ◌∷◌, length, get_or, take, map, subst}
 use Rattle.std.specs.Prelude.{ℤ, pos, negsuc, ◌*ℤ◌, ◌<ℤ◌, unsigned_abs}
 use Prim.Native.Nat.{◌∣◌}
 use Rattle.std.specs.List.{All, fold}
@@ -8,11 +8,11 @@ use Rattle.std.specs.Int.RustNames.{int_div, int_rem}
 use lib.IntN.{neg_ℤ}
 use Rattle.std.proofs.lemmas.Int.{ints, quot-rem, unsigned_abs-mul}
 use Rattle.std.proofs.lemmas.List.Elements.{All-cons}
-use Rattle.std.proofs.lemmas.List.{length-map}
+use Rattle.std.proofs.lemmas.List.{length-map, length-take, get_or-take}
 use Rattle.std.proofs.lemmas.Nat.Gcd.{dvd_refl, dvd_trans, mod-eq-zero_of_dvd, dvd-zero, le_of_dvd, IsGcd-from_mod, IsGcd-from_zero, same_from_IsGcd}
 use Rattle.exact_num.proofs.Ring.{leaf, times, same}
 use Rattle.exact_num.specs.Divisors.{gcd_of, gcd_with, row_gcd, primitive, euclid, IsPrimitive}
-use Rattle.std.proofs.Math.Nat.{dvd-add_iff_right, dvd-mul_right_of_dvd, dvd-mul_left, eq-zero_of_zero-dvd, zero-div, zero-mul, mul-dvd-mul_right, one-dvd}
+use Rattle.std.proofs.Math.Nat.{dvd-add_iff_right, dvd-mul_right_of_dvd, dvd-mul_left, eq-zero_of_zero-dvd, zero-div, zero-mul, mul-dvd-mul_right, one-dvd, eq-one_of_dvd-one}
 
 -- enough steps give the greatest common divisor
 pub IsGcd-euclid : (steps a b : ℕ) → b < steps → IsGcd a b (euclid steps a b)
@@ -124,6 +124,23 @@ pub same_ratio : (x y a b : ℤ) (g : ℕ) → a *ℤ pos g ≡ x → b *ℤ pos
 same_ratio x y a b g e f =
     let A = leaf a in let B = leaf b in let G = leaf (pos g) in
     ap (λ (z : ℤ). a *ℤ z) (sym f) ∙ same (times A (times B G)) (times (times A G) B) (omega arith) ∙ ap (λ (z : ℤ). z *ℤ b) e
+
+-- a row whose front has no common divisor but 1 is reduced
+pub one_stays : (row : List ℤ) (i : ℕ) → fold gcd_with 0 (take i row) ≡ 1 → row_gcd row ≡ 1
+one_stays row i e =
+    let d = row_gcd row in
+    eq-one_of_dvd-one (subst (λ (n : ℕ). d ∣ n) e (fold_greatest d 0 (take i row) (dvd-zero d) (λ k x h. subst (λ (y : ℤ). d ∣ unsigned_abs y) (sym (get_or-take i row k x (omega (arith, h, length-take i row)))) ((fold_divides 0 row).1 k x (omega (arith, h, length-take i row))))))
+
+divided_by_one : (row : List ℤ) → map (λ x. int_div x (pos 1)) row ≡ row
+divided_by_one [] = refl
+divided_by_one (x ∷ row) =
+    let e : int_div x (pos 1) *ℤ pos 1 ≡ x = exact x 1 (one-dvd (unsigned_abs x)) in
+    let first : int_div x (pos 1) ≡ x = omega (arith, ints, e) in
+    let rest : map (λ y. int_div y (pos 1)) row ≡ row = divided_by_one row in
+    cc
+
+pub primitive_one : (row : List ℤ) → row_gcd row ≡ 1 → row ≡ primitive row
+primitive_one row e = sym (ap (λ (g : ℕ). map (λ x. int_div x (pos g)) row) e ∙ divided_by_one row)
 
 -- ---- Gauss' lemma
 -- what divides k a and k b divides k times what Euclid's steps give

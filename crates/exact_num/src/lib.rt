@@ -63,6 +63,9 @@ pub fn reduce_row(row: &mut [i128])
     let mut divisor = 0;
     'measured: for x in row.iter() {
         divisor = gcd(divisor, x.unsigned_abs());
+        if divisor == 1 {
+            return;
+        }
     }
     if divisor > 0 {
         'divided: for x in row.iter_mut() {

@@ -1,14 +1,15 @@
-use Rattle.std.proofs.Common.{arith, ℕ, ◌<◌, ◌≡◌, ◌^◌, length, set, get_or, rules, sym, ◌∙◌, subst, ap, List, map}
+use Rattle.std.proofs.Common.{arith, ℕ, ◌<◌, ◌≡◌, ◌^◌, length, set, take, get_or, ◌+◌, rules, sym, ◌∙◌, subst, ap, List, map}
 use Rattle.std.proofs.lemmas.Int.{to_z-of_z}
 use Rattle.std.proofs.lemmas.List.{take_all}
+use Rattle.std.proofs.lemmas.List.Sums.{fold_more}
 use Rattle.std.proofs.lemmas.List.Elements.{All-get_or}
 use Rattle.std.specs.Prelude.{ℤ, pos, ◌*ℤ◌, unsigned_abs}
 use Rattle.std.specs.Int.RustNames.{int_div, FitsSigned}
 use Rattle.std.specs.List.{fold}
 use mir.Syntax.{w128}
-use Rattle.exact_num.specs.Divisors.{row_gcd, gcd_with, IsPrimitive}
+use Rattle.exact_num.specs.Divisors.{row_gcd, gcd_of, gcd_with, IsPrimitive}
 use Rattle.exact_num.proofs.Maps.{map_front, map_front_more, map_front_all, get_or-map_front, length-map_front}
-use Rattle.exact_num.proofs.Divisors.{primitive_zero, primitive_times, primitive_lowest}
+use Rattle.exact_num.proofs.Divisors.{primitive_zero, primitive_one, one_stays, primitive_times, primitive_lowest}
 use Rattle.exact_num.proofs.reduce_row.Goals as goal
 
 pub part_of-requires-clause-small : goal.part_of-requires-clause-small
@@ -58,3 +59,21 @@ returns-else-divisor-gt0-clause-multiple c =
 
 pub returns-else-divisor-gt0-clause-lowest : goal.returns-else-divisor-gt0-clause-lowest
 returns-else-divisor-gt0-clause-lowest c = λ h. subst IsPrimitive (sym (returns-else-divisor-gt0-clause-value c)) (primitive_lowest c.args.row.now h)
+
+pub returns-then-divisor-eq1-clause-value : goal.returns-then-divisor-eq1-clause-value
+returns-then-divisor-eq1-clause-value c =
+    let i = c.measured.x-index in
+    let row = c.args.row.now in
+    let x : ℤ = get_or row i (pos 0) in
+    let fits : FitsSigned w128 x = search rules in
+    let size : c.unsigned_abs.result ≡ unsigned_abs x = simp to_z-of_z at c.unsigned_abs.ensures.value in
+    let more = fold_more gcd_with 0 row i (pos 0) (omega arith) in
+    let front : fold gcd_with 0 (take (i + 1) row) ≡ c.gcd-divisor.result = more ∙ ap (λ (g : ℕ). gcd_with g x) (sym c.measured.invariant) ∙ ap (gcd_of c.measured.divisor) (sym size) ∙ sym c.gcd-divisor.ensures.value in
+    primitive_one row (one_stays row (i + 1) (front ∙ c.if-divisor-eq1.true))
+
+pub returns-then-divisor-eq1-clause-multiple : goal.returns-then-divisor-eq1-clause-multiple
+returns-then-divisor-eq1-clause-multiple c =
+    ap (map (λ (x : ℤ). x *ℤ pos (row_gcd c.args.row.now))) (returns-then-divisor-eq1-clause-value c) ∙ primitive_times c.args.row.now
+
+pub returns-then-divisor-eq1-clause-lowest : goal.returns-then-divisor-eq1-clause-lowest
+returns-then-divisor-eq1-clause-lowest c = λ h. subst IsPrimitive (sym (returns-then-divisor-eq1-clause-value c)) (primitive_lowest c.args.row.now h)
