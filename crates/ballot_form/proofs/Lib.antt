@@ -1,2 +1,4 @@
 pub mod Polls
 pub mod Lengths
+pub mod Places
+pub mod Counting

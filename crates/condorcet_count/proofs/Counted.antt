@@ -1,23 +1,17 @@
 -- Counts of ballots.
-use Rattle.std.proofs.Common.{ℕ, List, [], ◌∷◌, Some, Bool, true, false, ◌≡◌, ◌<◌, ◌≤◌, ◌+◌, ◌-◌, ◌∙◌, take, cond, length, get_or, slice_get, sym, ap, refl, add-zero, arith}
-use Rattle.std.specs.Prelude.{count_by}
-use Rattle.std.proofs.lemmas.List.Sums.{count_by_more_yes, count_by_more_no, sum_by-cons}
-use Rattle.std.proofs.lemmas.Option.{get_or_from_slice_get, slice_get_within}
+use Rattle.std.proofs.Common.{ℕ, List, [], ◌∷◌, Some, ◌≡◌, ◌<◌, ◌≤◌, ◌+◌, ◌-◌, take, cond, slice_get, refl, arith}
+use Rattle.std.proofs.lemmas.List.Sums.{sum_by-cons}
+use Rattle.ballot_form.proofs.Counting.{count_by_more}
 use Rattle.condorcet_count.specs.Behind.{behind_count, is_behind}
 use Rattle.ballot_form.specs.Ballots.{Poll}
 use Rattle.condorcet_count.specs.Preferences.{ArePrefs, count_at, pref_of, prefers}
 use Rattle.condorcet_count.proofs.Places.{prefers_or_behind}
 
-counted : {X : Type 0} (p : X → Bool) (xs : List X) (i : ℕ) (d : X) (b : Bool) → i < length xs → p (get_or xs i d) ≡ b
-    → count_by p (take (i + 1) xs) ≡ count_by p (take i xs) + cond b 1 0
-counted p xs i d true within e = count_by_more_yes p xs i d within e
-counted p xs i d false within e = count_by_more_no p xs i d within e ∙ sym (add-zero _)
-
 -- one ballot more
 pub behind_count_more : (rows : List (List ℕ)) (i : ℕ) (row : List ℕ) (x y : ℕ) → slice_get rows i ≡ Some row
     → behind_count (take (i + 1) rows) x y ≡ behind_count (take i rows) x y + cond (is_behind row x y) 1 0
 behind_count_more rows i row x y at =
-    counted (λ r. is_behind r x y) rows i row (is_behind row x y) (slice_get_within rows i row at) (ap (λ r. is_behind r x y) (get_or_from_slice_get rows i row row at))
+    count_by_more (λ r. is_behind r x y) rows i row at
 
 -- of the ballots that rank x, those that don't have y up to it prefer x
 pub all_that_rank : (rows : List (List ℕ)) (x y : ℕ) → pref_of rows x y + behind_count rows x y ≡ behind_count rows x x

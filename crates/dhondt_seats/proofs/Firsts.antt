@@ -1,7 +1,7 @@
 -- Counting first preferences.
-use Rattle.std.proofs.Common.{ℕ, List, [], Option, Bool, true, false, ◌≡◌, ◌<◌, ◌≤◌, ◌+◌, ◌∙◌, take, cond, length, get_or, slice_get, sym, ap, add-zero, arith}
-use Rattle.std.specs.Prelude.{IfSome, count_by}
-use Rattle.std.proofs.lemmas.List.Sums.{count_by_more_yes, count_by_more_no}
+use Rattle.std.proofs.Common.{ℕ, List, [], Option, ◌≡◌, ◌<◌, ◌≤◌, ◌+◌, ◌∙◌, take, cond, length, get_or, slice_get, ap, arith}
+use Rattle.std.specs.Prelude.{IfSome}
+use Rattle.ballot_form.proofs.Counting.{count_by_at}
 use Rattle.std.proofs.lemmas.List.{get_or_default, take_all}
 use Rattle.std.proofs.lemmas.List.FromFn.{fill_by_all}
 use Rattle.std.proofs.lemmas.Option.{slice_get-get_or}
@@ -9,18 +9,13 @@ use Rattle.ballot_form.specs.Ballots.{Poll}
 use Rattle.ballot_form.specs.Scores.{first_count, first_of, is_first, is_some_of}
 use Rattle.dhondt_seats.specs.Seats.{votes_of}
 
-counted : {X : Type 0} (p : X → Bool) (xs : List X) (i : ℕ) (d : X) (b : Bool) → i < length xs → p (get_or xs i d) ≡ b
-    → count_by p (take (i + 1) xs) ≡ count_by p (take i xs) + cond b 1 0
-counted p xs i d true within e = count_by_more_yes p xs i d within e
-counted p xs i d false within e = count_by_more_no p xs i d within e ∙ sym (add-zero _)
-
 -- one ballot more
 pub first_more : (rows : List (List ℕ)) (i : ℕ) (first : Option ℕ) (a : ℕ) → i < length rows → IfSome (slice_get rows i) (λ row. first ≡ first_of row)
     → first_count (take (i + 1) rows) a ≡ first_count (take i rows) a + cond (is_some_of first a) 1 0
 first_more rows i first a within is =
     let at = slice_get-get_or rows i [] within in
     let same : first ≡ first_of (get_or rows i []) = rw at at is in
-    rw same (counted (λ row. is_first row a) rows i [] (is_first (get_or rows i []) a) within (ap (λ row. is_first row a) cc))
+    rw same (count_by_at (λ row. is_first row a) rows i [] (is_first (get_or rows i []) a) within (ap (λ row. is_first row a) cc))
 
 -- all ballots are counted
 pub are_votes : (p : Poll) (votes : List ℕ) (i : ℕ) → length votes ≡ p.c → length p.rows ≤ i → ((a : ℕ) → a < length votes → get_or votes a 0 ≡ first_count (take i p.rows) a)
