@@ -1,6 +1,5 @@
 // The reported outcome.
-ghost use Rattle.std.specs.Prelude.{◌≡◌, ◌≤◌, ◌<◌, length, IfOk, ℕ};
-ghost use Rattle.ballot_form.specs.Ballots.{Poll};
+ghost use Rattle.std.specs.Prelude.{◌≤◌, ◌<◌, IfOk};
 ghost use Rattle.ballot_form.specs.Rules.{IsRule};
 ghost use Rattle.ballot_form.specs.declared.rule.Rule.TheVariants.{Borda, Condorcet, Dhondt, Irv, Plurality};
 ghost use Rattle.goal_rows.specs.Outcomes.{Admits, IsReported};

@@ -1,5 +1,5 @@
 // Whether an outcome is admitted.
-ghost use Rattle.std.specs.Prelude.{◌≡◌, ◌↔◌, ◌≤◌, ◌<◌, ℕ, List, IfOk, IsTrue, Option, length, slice_index};
+ghost use Rattle.std.specs.Prelude.{◌↔◌, ◌≤◌, ◌<◌, ℕ, List, IfOk, IsTrue};
 ghost use Rattle.ballot_form.specs.Ballots.{Poll};
 ghost use Rattle.ballot_form.specs.Rules.{IsRule};
 ghost use Rattle.ballot_form.specs.declared.rule.Rule.TheVariants.{Borda, Condorcet, Dhondt, Irv, Plurality};
