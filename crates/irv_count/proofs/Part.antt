@@ -97,8 +97,8 @@ stepped against p order standing after x is part out others gone smaller =
         | inr g ↦ let e : i ≡ length order = let k = rw long at lt in omega arith in rw (e, last, all) new
       ];
       some =
-        let k = (count_drop p.c x (stands standing) (stands after) out.among gone (λ y lt ne. others y (omega arith) ne)).0 out.below in
-        let s = part.some in rw long (omega arith);
+          let k = (count_drop p.c x (stands standing) (stands after) out.among gone (λ y lt ne. others y (omega arith) ne)).0 out.below in
+          let s = part.some in rw long (omega arith);
       first = λ i y lt yc stays. elim (cases_lt i (length order)) [
         | inl l ↦
             let s1 : not (member y (take i (order ++ x ∷ []))) ≡ true = stays in
