@@ -1,5 +1,5 @@
 -- Members of a list, and of its first part.
-use Rattle.std.proofs.Common.{ℕ, zero, suc, List, [], ◌∷◌, ◌++◌, Bool, true, false, ◌≡◌, ◌<◌, ◌≤◌, ◌⊎◌, ◌+◌, length, take, get_or, ◌∙◌, refl, sym, ap, inl, inr, arith}
+use Rattle.std.proofs.Common.{ℕ, zero, suc, List, [], ◌∷◌, ◌++◌, Bool, true, false, ◌≡◌, ◌<◌, ◌⊎◌, ◌+◌, length, take, get_or, ◌∙◌, refl, sym, ap, inl, inr, arith}
 use Rattle.std.specs.Prelude.{not, ◌==◌, ◌||◌, Contains}
 use Rattle.std.proofs.lemmas.Bool.{cases_eq}
 use Rattle.std.proofs.lemmas.Bool.Decides.{nat_tests}

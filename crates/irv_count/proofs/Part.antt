@@ -1,11 +1,11 @@
 -- An order by a choice at the ties, place by place.
-use Rattle.std.proofs.Common.{ℕ, zero, suc, List, [], ◌∷◌, ◌++◌, Option, Some, None, Bool, true, false, ◌≡◌, ◌<◌, ◌≤◌, ◌⊎◌, ◌+◌, ◌-◌, ◌^◌, ◌∙◌, length, take, get_or, refl, sym, inl, inr, arith, subst, All, length-append}
+use Rattle.std.proofs.Common.{ℕ, zero, suc, List, [], ◌∷◌, ◌++◌, Option, Some, None, Bool, true, false, ◌≡◌, ◌<◌, ◌≤◌, ◌⊎◌, ◌+◌, ◌-◌, ◌^◌, ◌∙◌, length, take, get_or, refl, sym, inl, inr, arith, subst, length-append}
 use Rattle.std.specs.Prelude.{not}
 use Rattle.std.proofs.Math.Seq.{get_or-append_seam, take-append_seam}
 use Rattle.std.proofs.lemmas.Bool.{cases_lt, cases_eq}
 use Rattle.std.proofs.lemmas.List.{take-append-le, get_or_append_left}
-use Rattle.ballot_form.specs.Ballots.{IsPoll, IsValidBallot, Poll}
-use Rattle.irv_count.specs.Orders.{member, held_count, left_after, stands, GoesFirst, IsOrderBy}
+use Rattle.ballot_form.specs.Ballots.{IsPoll, Poll}
+use Rattle.irv_count.specs.Orders.{member, held_count, stands, GoesFirst, IsOrderBy}
 use Rattle.irv_count.specs.Rounds.{count_to, Goes, IsOut, IsPart}
 use Rattle.irv_count.proofs.Bits.{bits_of_all, bits_without}
 use Rattle.irv_count.proofs.Holders.{held_by_bits}

@@ -1,6 +1,6 @@
 -- Those who are left of a whole order are those from that place on.
-use Rattle.std.proofs.Common.{ℕ, zero, suc, List, [], ◌∷◌, Bool, true, false, ◌≡◌, ◌<◌, ◌≤◌, ◌∙◌, length, take, drop, get_or, refl, sym, inl, inr, arith}
-use Rattle.std.proofs.lemmas.Bool.{cases_lt, cases_eq}
+use Rattle.std.proofs.Common.{ℕ, zero, suc, List, [], ◌∷◌, true, false, ◌≡◌, ◌<◌, ◌≤◌, ◌∙◌, length, take, drop, get_or, sym, inl, inr, arith}
+use Rattle.std.proofs.lemmas.Bool.{cases_lt}
 use Rattle.irv_count.specs.Orders.{member, left_after, IsOrder}
 use Rattle.irv_count.proofs.Members.{at_member, bool_cases, first_at, member_at, place_member}
 

@@ -1,5 +1,5 @@
 -- Orders of all candidates are the valid ballots that rank all.
-use Rattle.std.proofs.Common.{ℕ, List, [], ◌∷◌, Bool, true, false, ◌≡◌, ◌≢◌, ◌<◌, ◌≤◌, ◌∙◌, length, take, get_or, sym, inl, inr, arith}
+use Rattle.std.proofs.Common.{ℕ, List, ◌∷◌, true, false, ◌≡◌, ◌≢◌, ◌<◌, ◌∙◌, length, take, get_or, sym, inl, inr, arith}
 use Rattle.std.specs.Prelude.{◌↔◌}
 use Rattle.std.proofs.lemmas.List.{get_or_default}
 use Rattle.std.proofs.lemmas.List.Elements.{All-cons}
