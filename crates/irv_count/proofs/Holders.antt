@@ -1,11 +1,11 @@
 -- Who holds how many ballots.
-use Rattle.std.proofs.Common.{ℕ, zero, suc, List, [], ◌∷◌, Option, Some, None, Bool, true, false, ◌≡◌, ◌<◌, ◌≤◌, ◌+◌, ◌∙◌, length, take, slice_get, cond, refl, sym, ap, inl, inr, arith, All}
-use Rattle.std.specs.Prelude.{◌==◌, find, count_by}
+use Rattle.std.proofs.Common.{ℕ, suc, List, [], ◌∷◌, Option, Some, Bool, true, false, ◌≡◌, ◌<◌, ◌+◌, ◌∙◌, take, slice_get, cond, refl, sym, ap, inl, inr, arith, All}
+use Rattle.std.specs.Prelude.{find, count_by}
 use Rattle.std.proofs.lemmas.List.Sums.{sum_by-cons}
-use Rattle.ballot_form.specs.Ballots.{IsValidBallot, IsPoll, Poll}
+use Rattle.ballot_form.specs.Ballots.{IsValidBallot}
 use Rattle.ballot_form.specs.Scores.{is_some_of}
 use Rattle.ballot_form.proofs.Counting.{count_by_more}
-use Rattle.irv_count.specs.Orders.{held_count, holder, left_after, stands}
+use Rattle.irv_count.specs.Orders.{held_count, holder, stands}
 use Rattle.irv_count.specs.Rounds.{AreBitsOf}
 use Rattle.irv_count.proofs.Members.{bool_cases, differ_test}
 

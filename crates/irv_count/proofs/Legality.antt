@@ -1,5 +1,5 @@
 -- Whether an order is legal, place by place.
-use Rattle.std.proofs.Common.{ℕ, List, Bool, true, false, ◌≡◌, ◌<◌, ◌≤◌, ◌+◌, ◌-◌, ◌^◌, ◌∙◌, length, get_or, sym, subst, inl, inr, arith}
+use Rattle.std.proofs.Common.{ℕ, List, true, false, ◌≡◌, ◌<◌, ◌≤◌, ◌+◌, ◌-◌, ◌^◌, ◌∙◌, length, get_or, sym, subst, inl, inr, arith}
 use Rattle.std.specs.Prelude.{◌↔◌}
 use Rattle.std.proofs.lemmas.Bool.{cases_eq}
 use Rattle.ballot_form.specs.Ballots.{IsPoll, Poll}

@@ -5,3 +5,4 @@ pub mod Part
 pub mod Legality
 pub mod Rest
 pub mod Unique
+pub mod Whole

@@ -1,5 +1,5 @@
 -- Members of a list, and of its first part.
-use Rattle.std.proofs.Common.{ℕ, zero, suc, List, [], ◌∷◌, ◌++◌, Bool, true, false, ◌≡◌, ◌<◌, ◌≤◌, ◌⊎◌, ◌+◌, length, take, get_or, ◌∙◌, refl, sym, ap, inl, inr, arith}
+use Rattle.std.proofs.Common.{ℕ, zero, suc, List, [], ◌∷◌, ◌++◌, Bool, true, false, ◌≡◌, ◌<◌, ◌⊎◌, ◌+◌, length, take, get_or, ◌∙◌, refl, sym, ap, inl, inr, arith}
 use Rattle.std.specs.Prelude.{not, ◌==◌, ◌||◌, Contains}
 use Rattle.std.proofs.lemmas.Bool.{cases_eq}
 use Rattle.std.proofs.lemmas.Bool.Decides.{nat_tests}
@@ -66,3 +66,12 @@ not_contained xs x out contained =
     let m = place_member xs r.0 r.1 in
     let m1 = rw (r.2 0) at m in
     let z : true ≡ false = sym m1 ∙ out in cc
+
+-- a member of the first i is at a place before i
+pub first_at : (x : ℕ) (xs : List ℕ) (i : ℕ) → member x (take i xs) ≡ true → (k : ℕ) × (k < i) × (k < length xs) × (get_or xs k 0 ≡ x)
+first_at x xs zero e = cc
+first_at x [] (suc i) e = cc
+first_at x (y ∷ xs) (suc i) e = elim (cases_eq x y) [
+  | inl same ↦ (0, omega arith, omega arith, sym same)
+  | inr ne ↦ let r = first_at x xs i (rw (differ_test x y ne) at e) in (suc r.0, (let k = r.1 in omega arith), (let k = r.2 in omega arith), r.3)
+]

@@ -1,11 +1,11 @@
 -- An order by a choice at the ties, place by place.
-use Rattle.std.proofs.Common.{ℕ, zero, suc, List, [], ◌∷◌, ◌++◌, Option, Some, None, Bool, true, false, ◌≡◌, ◌<◌, ◌≤◌, ◌⊎◌, ◌+◌, ◌-◌, ◌^◌, ◌∙◌, length, take, get_or, refl, sym, inl, inr, arith, subst, All, length-append}
+use Rattle.std.proofs.Common.{ℕ, zero, suc, List, [], ◌∷◌, ◌++◌, Option, Some, None, Bool, true, false, ◌≡◌, ◌<◌, ◌≤◌, ◌⊎◌, ◌+◌, ◌-◌, ◌^◌, ◌∙◌, length, take, get_or, refl, sym, inl, inr, arith, subst, length-append}
 use Rattle.std.specs.Prelude.{not}
 use Rattle.std.proofs.Math.Seq.{get_or-append_seam, take-append_seam}
 use Rattle.std.proofs.lemmas.Bool.{cases_lt, cases_eq}
 use Rattle.std.proofs.lemmas.List.{take-append-le, get_or_append_left}
-use Rattle.ballot_form.specs.Ballots.{IsPoll, IsValidBallot, Poll}
-use Rattle.irv_count.specs.Orders.{member, held_count, left_after, stands, GoesFirst, IsOrderBy}
+use Rattle.ballot_form.specs.Ballots.{IsPoll, Poll}
+use Rattle.irv_count.specs.Orders.{member, held_count, stands, GoesFirst, IsOrderBy}
 use Rattle.irv_count.specs.Rounds.{count_to, Goes, IsOut, IsPart}
 use Rattle.irv_count.proofs.Bits.{bits_of_all, bits_without}
 use Rattle.irv_count.proofs.Holders.{held_by_bits}
@@ -97,8 +97,8 @@ stepped against p order standing after x is part out others gone smaller =
         | inr g ↦ let e : i ≡ length order = let k = rw long at lt in omega arith in rw (e, last, all) new
       ];
       some =
-        let k = (count_drop p.c x (stands standing) (stands after) out.among gone (λ y lt ne. others y (omega arith) ne)).0 out.below in
-        let s = part.some in rw long (omega arith);
+          let k = (count_drop p.c x (stands standing) (stands after) out.among gone (λ y lt ne. others y (omega arith) ne)).0 out.below in
+          let s = part.some in rw long (omega arith);
       first = λ i y lt yc stays. elim (cases_lt i (length order)) [
         | inl l ↦
             let s1 : not (member y (take i (order ++ x ∷ []))) ≡ true = stays in

@@ -1,8 +1,8 @@
 -- Those who are left of a whole order are those from that place on.
-use Rattle.std.proofs.Common.{ℕ, zero, suc, List, [], ◌∷◌, Bool, true, false, ◌≡◌, ◌<◌, ◌≤◌, ◌∙◌, length, take, drop, get_or, refl, sym, inl, inr, arith}
-use Rattle.std.proofs.lemmas.Bool.{cases_lt, cases_eq}
+use Rattle.std.proofs.Common.{ℕ, zero, suc, List, [], ◌∷◌, true, false, ◌≡◌, ◌<◌, ◌≤◌, ◌∙◌, length, take, drop, get_or, sym, inl, inr, arith}
+use Rattle.std.proofs.lemmas.Bool.{cases_lt}
 use Rattle.irv_count.specs.Orders.{member, left_after, IsOrder}
-use Rattle.irv_count.proofs.Members.{at_member, bool_cases, differ_test, member_at, place_member}
+use Rattle.irv_count.proofs.Members.{at_member, bool_cases, first_at, member_at, place_member}
 
 -- a member of the rest is at a place from i on, and what is at such a place is a member of the rest
 rest_at : (x : ℕ) (xs : List ℕ) (i : ℕ) → member x (drop i xs) ≡ true → (k : ℕ) × (i ≤ k) × (k < length xs) × (get_or xs k 0 ≡ x)
@@ -15,14 +15,6 @@ at_rest [] i k ik kl = absurd (omega arith)
 at_rest (y ∷ xs) zero k ik kl = place_member (y ∷ xs) k kl
 at_rest (y ∷ xs) (suc i) zero ik kl = absurd (omega arith)
 at_rest (y ∷ xs) (suc i) (suc k) ik kl = at_rest xs i k (omega arith) (omega arith)
-
-first_at : (x : ℕ) (xs : List ℕ) (i : ℕ) → member x (take i xs) ≡ true → (k : ℕ) × (k < i) × (k < length xs) × (get_or xs k 0 ≡ x)
-first_at x xs zero e = cc
-first_at x [] (suc i) e = cc
-first_at x (y ∷ xs) (suc i) e = elim (cases_eq x y) [
-  | inl same ↦ (0, omega arith, omega arith, sym same)
-  | inr ne ↦ let r = first_at x xs i (rw (differ_test x y ne) at e) in (suc r.0, (let k = r.1 in omega arith), (let k = r.2 in omega arith), r.3)
-]
 
 -- in a whole order those who are left after i places are those from that place on
 pub left_is_rest : (c : ℕ) (order : List ℕ) (i x : ℕ) → IsOrder c order → x < c → left_after order i x ≡ member x (drop i order)

@@ -1,9 +1,9 @@
 -- A choice at the ties leaves one order.
-use Rattle.std.proofs.Common.{ℕ, zero, suc, List, [], ◌∷◌, ◌++◌, Option, Some, None, Bool, true, false, ◌≡◌, ◌<◌, ◌≤◌, ◌⊎◌, ◌+◌, ◌∙◌, length, take, get_or, refl, sym, ap, subst, inl, inr, arith}
+use Rattle.std.proofs.Common.{ℕ, zero, suc, List, Option, Some, None, true, ◌≡◌, ◌<◌, ◌≤◌, ◌+◌, ◌∙◌, take, get_or, refl, sym, subst, arith}
 use Rattle.std.specs.Prelude.{not}
 use Rattle.std.proofs.lemmas.List.{take_all}
 use Rattle.ballot_form.specs.Ballots.{Poll}
-use Rattle.irv_count.specs.Orders.{held_count, left_after, member, GoesFirst, IsOrderBy}
+use Rattle.irv_count.specs.Orders.{held_count, member, GoesFirst, IsOrderBy}
 use Rattle.irv_count.proofs.Members.{take_more_at}
 
 -- of two of which each goes before the other

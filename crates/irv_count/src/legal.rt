@@ -5,7 +5,15 @@ ghost use Rattle.irv_count.specs.Rounds.{IsLeast};
 
 use crate::held::held_counts;
 use crate::standing::{all_of, stands_in, without};
-use ballot_form::{Cand, Roll};
+use ballot_form::{Cand, Roll, valid_row};
+
+/// Whether the list has each of `c` candidates once.
+#[tactic(auto, using(crate::proofs::Whole::order_from_valid, crate::proofs::Whole::valid_order))]
+pub fn is_order(order: &[Cand], c: u8) -> bool
+    ensures { IsTrue result ↔ IsOrder c order.now }
+{
+    order.len() == usize::from(c) && valid_row(order, c)
+}
 
 /// Whether the order of all candidates is legal: at each place goes one who holds no more ballots than any other of those left.
 /// `counts` has a place for each candidate, and what is written there means nothing.

@@ -1,4 +1,4 @@
-use Rattle.std.proofs.Common.{rules, ◌≤◌, ◌<◌, arith, refl}
+use Rattle.std.proofs.Common.{rules, ◌<◌, arith, refl}
 use Rattle.irv_count.proofs.Legality.{legal_begun, legal_stepped, not_legal}
 use Rattle.irv_count.proofs.legal.legal_order.Goals as goal
 

@@ -1,4 +1,4 @@
-use Rattle.std.proofs.Common.{rules, ◌≤◌, arith, length-append}
+use Rattle.std.proofs.Common.{rules, arith, length-append}
 use Rattle.irv_count.proofs.Part.{begun, ended, fresh, stepped}
 use Rattle.irv_count.proofs.Members.{not_contained}
 use Rattle.irv_count.proofs.orders.order_by.Goals as goal
