@@ -3,4 +3,11 @@ pub mod Led
 pub mod Closer
 pub mod Cuts
 pub mod Lines
+pub mod Ranges
+pub mod Numbers
+pub mod TallyScores
+pub mod TallyPairs
+pub mod TallySeats
+pub mod TallyRounds
+pub mod OneTally
 pub mod Promises

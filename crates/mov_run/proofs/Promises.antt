@@ -8,12 +8,13 @@ use Rattle.ballot_csv.specs.declared.fault.BallotFault.{BallotFault}
 use Rattle.ballot_form.specs.declared.rule.Rule.TheVariants.{Plurality}
 use Rattle.mov_run.specs.Allowed.{Allowed, Answer, Answers, AnswersWords, HasNoContest, IsContestFile, IsFaultyFile, IsLong, IsUnread, OverContest, Source, ballot_limit}
 use Rattle.mov_run.specs.Certificates.{IsCertOf, cert_text}
-use Rattle.mov_run.specs.Promised.{Causes, EndsWith, IsDone, IsToldContest, IsUntroubled, Promised, RefusesBallots, WritesMargin, WritesPlain}
+use Rattle.mov_run.specs.Promised.{Causes, EndsWith, IsDone, IsToldContest, IsUntroubled, Promised, RefusesBallots, WritesMargin, WritesPlain, WritesTally}
 use Rattle.mov_run.specs.Ran.{CutShort, Delivers, Outside, Ran, SaysLine, Stopped, Wrote, line_of, source_of, status_of}
+use Rattle.mov_run.specs.Tally.{IsTally}
 use Rattle.mov_run.specs.Words.{BallotFile, IsNoCommand, meaning}
 use Rattle.mov_run.specs.declared.certificate.Cert.{Cert}
 use Rattle.mov_run.specs.declared.jobs.Job.{Job}
-use Rattle.mov_run.specs.declared.jobs.Job.TheVariants.{Margin, Show}
+use Rattle.mov_run.specs.declared.jobs.Job.TheVariants.{Tally, Margin, Show}
 use Rattle.mov_run.specs.declared.jobs.WordFault.{WordFault}
 use Rattle.mov_run.specs.declared.runs.Output.{Output}
 use Rattle.mov_run.specs.declared.runs.Status.{Status}
@@ -82,6 +83,15 @@ writes_margin old new words s ran file k job told untroubled = elim ran.allowed 
       (made.0, made.1, done_of old new s ran.answer (cert_text made.0) made.2 ran.delivered untroubled)
 ]
 
+writes_tally : (old new : Outside) (words : List (List ℕ)) (s : Status) → Ran old new words s → WritesTally old new words s
+writes_tally old new words s ran rule file k job told untroubled = elim ran.allowed [
+  | inr m ↦ absurd (untroubled.memory (memory_of old new s ran.answer m.0 ran.delivered))
+  | inl by ↦
+      let answers : Answers (source_of old new) (Tally rule file) ran.answer = rw job at by in
+      let made = contest_answer old new file k (λ k a. (text : List ℕ) × IsTally rule k text × (a ≡ Ok (record { ends = Done; text = text }))) ran.answer told untroubled.reads answers in
+      (made.0, made.1, done_of old new s ran.answer made.0 made.2 ran.delivered untroubled)
+]
+
 writes_plain : (old new : Outside) (words : List (List ℕ)) (s : Status) → Ran old new words s → WritesPlain old new words s
 writes_plain old new words s ran file k job told untroubled = elim ran.allowed [
   | inr m ↦ absurd (untroubled.memory (memory_of old new s ran.answer m.0 ran.delivered))
@@ -105,6 +115,9 @@ contest_shape src m file next a named then (inl stopped) = inl (file, named, sto
 contest_shape src m file next a named then (inr good) = inr (file, named, (good.0, good.1, then good.0 good.2))
 
 job_shape : (src : Source) (job : Job) (a : Answer) → Answers src job a → JobShape src (Ok job) a
+job_shape src (Tally rule file) a by =
+    contest_shape src (Ok (Tally rule file)) file (λ k a. (text : List ℕ) × IsTally rule k text × (a ≡ Ok (record { ends = Done; text = text }))) a refl
+    (λ k made. (record { ends = Done; text = made.0 }, made.2, refl)) by
 job_shape src (Margin rule file) a by =
     contest_shape src (Ok (Margin rule file)) file (λ k a. (cert : Cert) × IsCertOf k.poll cert × (a ≡ Ok (record { ends = Done; text = cert_text cert }))) a refl
     (λ k made. (record { ends = Done; text = cert_text made.0 }, made.2, refl)) by
@@ -125,6 +138,7 @@ shape src (Err f) a (inl by) = inl (f, refl, by)
 shape src m a (inr none) = inr (inl none)
 
 one_ballot_file : (m : Result Job WordFault) (file other : List ℕ) → BallotFile m file → BallotFile m other → file ≡ other
+one_ballot_file (Ok (Tally rule name)) file other a b = a ∙ sym b
 one_ballot_file (Ok (Margin rule name)) file other a b = a ∙ sym b
 one_ballot_file (Ok (Show name)) file other a b = a ∙ sym b
 one_ballot_file (Err f) file other a b = absurd a
@@ -371,6 +385,7 @@ causes old new words s ran = elim (shape (source_of old new) (meaning words) ran
 pub promised : (old new : Outside) (words : List (List ℕ)) (s : Status) → Ran old new words s → Promised old new words s
 promised old new words s ran = record {
   ran = ran;
+  tally = writes_tally old new words s ran;
   margin = writes_margin old new words s ran;
   show = writes_plain old new words s ran;
   refuses = refuses old new words s ran;

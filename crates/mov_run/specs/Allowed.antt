@@ -6,10 +6,11 @@ use Rattle.ballot_csv.specs.PlainForm.{plain_form}
 use Rattle.ballot_csv.specs.declared.fault.BallotFault.{BallotFault}
 use Rattle.ballot_form.specs.declared.contest.Contest.{Contest}
 use Rattle.mov_run.specs.Certificates.{IsCertOf, cert_text}
+use Rattle.mov_run.specs.Tally.{IsTally}
 use Rattle.mov_run.specs.Words.{IsNoCommand, meaning}
 use Rattle.mov_run.specs.declared.certificate.Cert.{Cert}
 use Rattle.mov_run.specs.declared.jobs.Job.{Job}
-use Rattle.mov_run.specs.declared.jobs.Job.TheVariants.{Margin, Show}
+use Rattle.mov_run.specs.declared.jobs.Job.TheVariants.{Tally, Margin, Show}
 use Rattle.mov_run.specs.declared.jobs.WordFault.{WordFault}
 use Rattle.mov_run.specs.declared.runs.Output.{Output}
 use Rattle.mov_run.specs.declared.runs.Status.TheVariants.{Done}
@@ -74,6 +75,7 @@ OverContest s name next a =
 
 -- the answers of a job, want of memory aside
 abbrev pub Answers : Source → Job → Answer → Type 0
+Answers s (Tally rule file) a = OverContest s file (λ k a. (text : List ℕ) × IsTally rule k text × (a ≡ Ok (record { ends = Done; text = text }))) a
 Answers s (Margin rule file) a = OverContest s file (λ k a. (cert : Cert) × IsCertOf k.poll cert × (a ≡ Ok (record { ends = Done; text = cert_text cert }))) a
 Answers s (Show file) a = OverContest s file (λ k a. a ≡ Ok (record { ends = Done; text = plain_form k })) a
 

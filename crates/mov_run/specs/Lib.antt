@@ -1,5 +1,7 @@
 pub mod Certificates
 pub mod Nearest
+pub mod Tally
+pub mod Counted
 pub mod Words
 pub mod Allowed
 pub mod Ran

@@ -5,13 +5,15 @@ use Rattle.mov_edge.specs.Outside.{Took, Tells, Lacks, Rose}
 use Rattle.ballot_csv.specs.BallotFile.{NamedPoll, read_of}
 use Rattle.ballot_csv.specs.PlainForm.{plain_form}
 use Rattle.ballot_csv.specs.declared.fault.BallotFault.{BallotFault}
+use Rattle.ballot_form.specs.declared.rule.Rule.{Rule}
 use Rattle.ballot_form.specs.declared.rule.Rule.TheVariants.{Plurality}
 use Rattle.mov_run.specs.Allowed.{Allowed, IsFaultyFile, IsLong, ballot_limit}
 use Rattle.mov_run.specs.Certificates.{IsCertOf, cert_text}
 use Rattle.mov_run.specs.Ran.{Outside, Ran, SaysLine, line_of, source_of}
+use Rattle.mov_run.specs.Tally.{IsTally}
 use Rattle.mov_run.specs.Words.{BallotFile, IsNoCommand, Names, meaning}
 use Rattle.mov_run.specs.declared.certificate.Cert.{Cert}
-use Rattle.mov_run.specs.declared.jobs.Job.TheVariants.{Margin, Show}
+use Rattle.mov_run.specs.declared.jobs.Job.TheVariants.{Tally, Margin, Show}
 use Rattle.mov_run.specs.declared.jobs.WordFault.{WordFault}
 use Rattle.mov_run.specs.declared.runs.Output.{Output}
 use Rattle.mov_run.specs.declared.runs.Status.{Status}
@@ -42,6 +44,12 @@ abbrev pub WritesMargin : Outside → Outside → List (List ℕ) → Status →
 WritesMargin old new words s =
     (file : List ℕ) (k : NamedPoll) → meaning words ≡ Ok (Margin Plurality file) → IsToldContest old file k → IsUntroubled old new s →
     (cert : Cert) × IsCertOf k.poll cert × IsDone old new s (cert_text cert)
+
+-- `tally` of a told and accepted file under a rule writes the text of the tally of its contest
+abbrev pub WritesTally : Outside → Outside → List (List ℕ) → Status → Type 0
+WritesTally old new words s =
+    (rule : Rule) (file : List ℕ) (k : NamedPoll) → meaning words ≡ Ok (Tally rule file) → IsToldContest old file k → IsUntroubled old new s →
+    (text : List ℕ) × IsTally rule k text × IsDone old new s text
 
 -- `show` of a told and accepted file writes it in the plain form
 abbrev pub WritesPlain : Outside → Outside → List (List ℕ) → Status → Type 0
@@ -100,6 +108,7 @@ pub record Causes (old new : Outside) (words : List (List ℕ)) (s : Status) : T
 
 pub record Promised (old new : Outside) (words : List (List ℕ)) (s : Status) : Type 0 where
   pub ran : Ran old new words s
+  pub tally : WritesTally old new words s
   pub margin : WritesMargin old new words s
   pub show : WritesPlain old new words s
   pub refuses : RefusesBallots old new words s

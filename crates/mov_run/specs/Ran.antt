@@ -18,6 +18,9 @@ word_line_of word.NoCommand = codes "mov: words: no command\n"
 word_line_of word.UnknownCommand = codes "mov: words: unknown command\n"
 word_line_of word.Line = codes "mov: words: wrong arguments\n"
 word_line_of word.UnknownRule = codes "mov: words: unknown rule\n"
+word_line_of word.BadSeats = codes "mov: words: bad seats\n"
+word_line_of word.SeatsMissing = codes "mov: words: seats missing\n"
+word_line_of word.SeatsUnwanted = codes "mov: words: seats unwanted\n"
 word_line_of word.Memory = codes "mov: out of memory\n"
 
 abbrev pub kind_text : BallotKind → List ℕ

@@ -1,11 +1,77 @@
 -- What the words of the command line ask for.
-use Rattle.std.specs.Prelude.{◌≡◌, ◌⊎◌, List, [], ◌∷◌, ℕ, if◌then◌else◌, codes, bytes_eq, Option, Some, None, Result, Ok, Err, IsErrOf}
+use Rattle.std.specs.Prelude.{◌≡◌, ◌⊎◌, List, [], ◌∷◌, ℕ, ◌&&◌, nat_le, if◌then◌else◌, codes, bytes_eq, Option, Some, None, Result, Ok, Err, IsErrOf}
+use Rattle.ballot_csv.specs.Counts.{number_of}
+use Rattle.ballot_form.specs.Rules.{IsRule}
 use Rattle.ballot_form.specs.declared.rule.Rule.{Rule}
-use Rattle.ballot_form.specs.declared.rule.Rule.TheVariants.{Plurality}
+use Rattle.ballot_form.specs.declared.rule.Rule.TheVariants.{Plurality, Borda, Condorcet, Dhondt, Irv}
 use Rattle.mov_run.specs.declared.jobs.Job.{Job}
-use Rattle.mov_run.specs.declared.jobs.Job.TheVariants.{Margin, Show}
+use Rattle.mov_run.specs.declared.jobs.Job.TheVariants.{Tally, Margin, Show}
+use Rattle.mov_run.specs.declared.rules.RuleName.{RuleName}
+use Rattle.mov_run.specs.declared.rules.RuleName.TheVariants as named
 use Rattle.mov_run.specs.declared.jobs.WordFault.{WordFault}
-use Rattle.mov_run.specs.declared.jobs.WordFault.TheVariants.{NoCommand, UnknownCommand, Line, UnknownRule, Memory}
+use Rattle.mov_run.specs.declared.jobs.WordFault.TheVariants.{NoCommand, UnknownCommand, Line, UnknownRule, BadSeats, SeatsMissing, SeatsUnwanted, Memory}
+
+-- what the name of a rule stands for, if it is one
+abbrev pub rule_name_of : List ℕ → Option RuleName
+rule_name_of name =
+    if bytes_eq name (codes "plurality") then Some named.Plurality
+    else if bytes_eq name (codes "borda") then Some named.Borda
+    else if bytes_eq name (codes "condorcet") then Some named.Condorcet
+    else if bytes_eq name (codes "dhondt") then Some named.Dhondt
+    else if bytes_eq name (codes "irv") then Some named.Irv
+    else None
+
+-- a number of seats, 1 to 500
+abbrev pub seats_of : Option ℕ → Option ℕ
+seats_of None = None
+seats_of (Some n) = if nat_le 1 n && nat_le n 500 then Some n else None
+
+-- the number of seats that a text names
+abbrev pub seats_named : List ℕ → Option ℕ
+seats_named text = seats_of (number_of text)
+
+-- the rule without seats
+abbrev pub rule_alone : Option RuleName → Result Rule WordFault
+rule_alone None = Err UnknownRule
+rule_alone (Some named.Plurality) = Ok Plurality
+rule_alone (Some named.Borda) = Ok Borda
+rule_alone (Some named.Condorcet) = Ok Condorcet
+rule_alone (Some named.Dhondt) = Err SeatsMissing
+rule_alone (Some named.Irv) = Ok Irv
+
+-- the rule with these seats
+abbrev pub rule_seated : RuleName → ℕ → Result Rule WordFault
+rule_seated named.Plurality seats = Err SeatsUnwanted
+rule_seated named.Borda seats = Err SeatsUnwanted
+rule_seated named.Condorcet seats = Err SeatsUnwanted
+rule_seated named.Dhondt seats = Ok (Dhondt seats)
+rule_seated named.Irv seats = Err SeatsUnwanted
+
+-- the rule with the seats that were named
+abbrev pub rule_with : Option RuleName → Option ℕ → Result Rule WordFault
+rule_with None seats = Err UnknownRule
+rule_with (Some name) None = Err BadSeats
+rule_with (Some name) (Some seats) = rule_seated name seats
+
+abbrev pub tally_with : Result Rule WordFault → List ℕ → Result Job WordFault
+tally_with (Err fault) file = Err fault
+tally_with (Ok rule) file = Ok (Tally rule file)
+
+-- a rule, a file, the word for seats, and their number
+abbrev pub seated_with : List ℕ → List ℕ → List ℕ → List ℕ → Result Job WordFault
+seated_with rule file option seats =
+    if bytes_eq option (codes "--seats") then tally_with (rule_with (rule_name_of rule) (seats_named seats)) file else Err Line
+
+-- a rule and a file, and after them nothing, or the seats as two words
+abbrev pub options_of : List ℕ → List ℕ → List (List ℕ) → Result Job WordFault
+options_of rule file [] = tally_with (rule_alone (rule_name_of rule)) file
+options_of rule file (option ∷ seats ∷ []) = seated_with rule file option seats
+options_of rule file words = Err Line
+
+-- `tally`: a rule, a file, and options
+abbrev pub tally_of : List (List ℕ) → Result Job WordFault
+tally_of (rule ∷ file ∷ options) = options_of rule file options
+tally_of words = Err Line
 
 -- the rule of this name, if `margin` knows it
 abbrev pub rule_named : List ℕ → Option Rule
@@ -29,7 +95,8 @@ show_of words = Err Line
 abbrev pub meaning : List (List ℕ) → Result Job WordFault
 meaning [] = Err NoCommand
 meaning (command ∷ words) =
-    if bytes_eq command (codes "margin") then margin_of words
+    if bytes_eq command (codes "tally") then tally_of words
+    else if bytes_eq command (codes "margin") then margin_of words
     else if bytes_eq command (codes "show") then show_of words
     else Err UnknownCommand
 
@@ -41,8 +108,14 @@ IsNoCommand m = IsErrOf m NoCommand ⊎ IsErrOf m UnknownCommand
 abbrev pub Reads : List (List ℕ) → Result Job WordFault → Type 0
 Reads words r = (r ≡ meaning words) ⊎ ((r ≡ Err Memory) × (IsNoCommand (meaning words) → ⊥))
 
+-- the rule of a tally has a lawful number of seats
+abbrev pub IsLawful : Job → Type 0
+IsLawful (Tally rule file) = IsRule rule
+IsLawful job = Unit {0}
+
 -- the ballot file that the job reads
 abbrev pub BallotFile : Result Job WordFault → List ℕ → Type 0
+BallotFile (Ok (Tally rule file)) name = name ≡ file
 BallotFile (Ok (Margin rule file)) name = name ≡ file
 BallotFile (Ok (Show file)) name = name ≡ file
 BallotFile (Err fault) name = ⊥

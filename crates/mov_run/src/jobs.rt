@@ -1,7 +1,9 @@
 // What the words of the command line ask for.
-ghost use Rattle.std.specs.Prelude.{◌≡◌, ◌⊎◌, ◌∷◌, codes, map, string_bytes, Err};
-ghost use Rattle.mov_run.specs.Words.{Reads, margin_with, rule_named};
+ghost use Rattle.std.specs.Prelude.{◌≡◌, ◌⊎◌, ◌∷◌, codes, map, string_bytes, Err, IfOk, Ok};
+ghost use Rattle.ballot_form.specs.Rules.{IsRule};
+ghost use Rattle.mov_run.specs.Words.{IsLawful, Reads, margin_with, options_of, rule_named, seated_with};
 
+use crate::rules::{rule_alone, rule_with};
 use ballot_form::{Rule, Text};
 use mov_base::Memory;
 use std::alloc::Global;
@@ -9,6 +11,8 @@ use std::alloc::Global;
 /// What is to be done.
 #[derive(Debug, Drop)]
 pub enum Job {
+    /// Count the contest in a ballot file.
+    Tally { rule: Rule, file: Text },
     /// Find the margin of the contest in a ballot file.
     Margin { rule: Rule, file: Text },
     /// Print a ballot file in its plain form.
@@ -22,10 +26,16 @@ pub enum WordFault {
     NoCommand,
     /// The first word isn't a command.
     UnknownCommand,
-    /// The words after the command aren't as many as it takes.
+    /// The words after the command aren't those that it takes.
     Line,
     /// The rule isn't one that the command knows.
     UnknownRule,
+    /// The seats aren't a number from 1 to 500.
+    BadSeats,
+    /// The rule wants seats, and none are named.
+    SeatsMissing,
+    /// The rule has no seats, and some are named.
+    SeatsUnwanted,
     /// There was no memory.
     Memory,
 }
@@ -43,21 +53,89 @@ impl From<Memory> for WordFault {
 
 /// The job of the words, or the first thing that is wrong with them. Whether the first word is a command is judged without memory.
 pub fn parse(alloc: Global, words: &[String]) -> Result<Job, WordFault>
-    ensures { Reads (map string_bytes words.now) result }
+    ensures reads { Reads (map string_bytes words.now) result }
+    ensures lawful { IfOk result IsLawful }
 {
     let Some((command, rest)) = words.split_first() else {
         return Err(WordFault::NoCommand);
     };
-    match command.as_str() {
+    job_of(alloc, command.as_str(), rest)
+}
+
+/// The job of a command and the words after it.
+fn job_of(alloc: Global, command: &str, rest: &[String]) -> Result<Job, WordFault>
+    ensures reads { Reads (command.now ∷ map string_bytes rest.now) result }
+    ensures lawful { IfOk result IsLawful }
+{
+    match command {
+        "tally" => tally_job(alloc, rest),
         "margin" => margin_job(alloc, rest),
         "show" => show_job(alloc, rest),
         _ => Err(WordFault::UnknownCommand),
     }
 }
 
+/// The job of the words after `tally`.
+fn tally_job(alloc: Global, words: &[String]) -> Result<Job, WordFault>
+    ensures reads { Reads (codes "tally" ∷ map string_bytes words.now) result }
+    ensures lawful { IfOk result IsLawful }
+{
+    let Some((rule, rest)) = words.split_first() else {
+        return Err(WordFault::Line);
+    };
+    let Some((file, options)) = rest.split_first() else {
+        return Err(WordFault::Line);
+    };
+    options_job(alloc, rule.as_str(), file.as_str(), options)
+}
+
+/// The job of a rule, a file and the words after these.
+fn options_job(alloc: Global, rule: &str, file: &str, options: &[String]) -> Result<Job, WordFault>
+    ensures reads { (result ≡ options_of rule.now file.now (map string_bytes options.now)) ⊎ (result ≡ Err WordFault.Memory) }
+    ensures lawful { IfOk result IsLawful }
+{
+    let Some((option, rest)) = options.split_first() else {
+        return tally_line(alloc, rule_alone(rule)?, file);
+    };
+    match rest {
+        [seats] => seated_line(alloc, rule, file, option.as_str(), seats.as_str()),
+        _ => Err(WordFault::Line),
+    }
+}
+
+/// The job of a rule, a file and two more words after `tally`.
+fn seated_line(
+    alloc: Global,
+    rule: &str,
+    file: &str,
+    option: &str,
+    seats: &str,
+) -> Result<Job, WordFault>
+    ensures reads { (result ≡ seated_with rule.now file.now option.now seats.now) ⊎ (result ≡ Err WordFault.Memory) }
+    ensures lawful { IfOk result IsLawful }
+{
+    if option != "--seats" {
+        return Err(WordFault::Line);
+    }
+    tally_line(alloc, rule_with(rule, seats)?, file)
+}
+
+/// The job of a rule and a file after `tally`.
+fn tally_line(alloc: Global, rule: Rule, file: &str) -> Result<Job, WordFault>
+    requires { IsRule rule }
+    ensures reads { (result ≡ Ok (Job.Tally rule file.now)) ⊎ (result ≡ Err WordFault.Memory) }
+    ensures lawful { IfOk result IsLawful }
+{
+    Ok(Job::Tally {
+        rule,
+        file: Text::of(alloc, file)?,
+    })
+}
+
 /// The job of the words after `margin`.
 fn margin_job(alloc: Global, words: &[String]) -> Result<Job, WordFault>
-    ensures { Reads (codes "margin" ∷ map string_bytes words.now) result }
+    ensures reads { Reads (codes "margin" ∷ map string_bytes words.now) result }
+    ensures lawful { IfOk result IsLawful }
 {
     match words {
         [rule, file] => margin_line(alloc, rule.as_str(), file.as_str()),
@@ -67,7 +145,8 @@ fn margin_job(alloc: Global, words: &[String]) -> Result<Job, WordFault>
 
 /// The job of a rule and a file after `margin`.
 fn margin_line(alloc: Global, rule: &str, file: &str) -> Result<Job, WordFault>
-    ensures { (result ≡ margin_with (rule_named rule.now) file.now) ⊎ (result ≡ Err WordFault.Memory) }
+    ensures reads { (result ≡ margin_with (rule_named rule.now) file.now) ⊎ (result ≡ Err WordFault.Memory) }
+    ensures lawful { IfOk result IsLawful }
 {
     let Some(rule) = known_rule(rule) else {
         return Err(WordFault::UnknownRule);
@@ -90,7 +169,8 @@ fn known_rule(name: &str) -> Option<Rule>
 
 /// The job of the words after `show`.
 fn show_job(alloc: Global, words: &[String]) -> Result<Job, WordFault>
-    ensures { Reads (codes "show" ∷ map string_bytes words.now) result }
+    ensures reads { Reads (codes "show" ∷ map string_bytes words.now) result }
+    ensures lawful { IfOk result IsLawful }
 {
     match words {
         [file] => Ok(Job::Show {

@@ -1,22 +1,36 @@
 //! One run of the program, from the words and the files to the text and the status.
 //!
-//! `run` does all that the program does, and its contract says what a run leaves, for each command and each way to end. The crate
-//! stands on the outside, on the ballot file and on the crates that count and define the margin.
+//! `run` does all that the program does, and its contract says what a run leaves, for each command and each way to end.
+//! `tally_text` is the text of a contest's tally under a rule: its scores, pairs, votes and seats, or rounds, by the definitions of
+//! those counts, and the reported outcome; a contest has one such text. The crate stands on the outside, on the ballot file and on
+//! the crates that count and define the margin.
 #![tactic(auto)]
 
 mod certificate;
 mod jobs;
+mod laws;
 mod margins;
+mod rules;
 mod runs;
 mod stops;
+mod tally;
+mod tally_pairs;
+mod tally_rounds;
+mod tally_scores;
+mod tally_seats;
 mod text;
 
 pub use certificate::{Cert, Found, NumberList};
 pub use jobs::{Job, WordFault, parse};
+pub use laws::a_tally_is_one_text;
 pub use margins::margin;
+pub use rules::RuleName;
 pub use runs::{Output, Status, run};
 pub use stops::Stop;
+pub use tally::tally_text;
 pub use text::print_cert;
 
+#[cfg(test)]
+mod tally_tests;
 #[cfg(test)]
 mod tests;

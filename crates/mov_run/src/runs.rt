@@ -1,5 +1,6 @@
 // The top call.
 ghost use Rattle.std.specs.Prelude.{◌≡◌, ◌≢◌, ◌⊎◌, ℕ, List, Option, map, string_bytes, IfOk, Ok, Err};
+ghost use Rattle.ballot_form.specs.Rules.{IsRule};
 ghost use Rattle.ballot_csv.specs.declared.fault.BallotKind.TheVariants as kind;
 ghost use Rattle.mov_run.specs.Allowed.{Allowed, AnswersOrMemory, Loads, LoadsContest};
 ghost use Rattle.mov_run.specs.Ran.{Ran, Sent, number_of, status_of};
@@ -9,6 +10,7 @@ use crate::certificate::Cert;
 use crate::jobs::{Job, WordFault, parse};
 use crate::margins::margin;
 use crate::stops::{Stop, say, say_line};
+use crate::tally::tally_text;
 use crate::text::print_cert;
 use ballot_csv::{BallotFault, BallotKind, print_ballots, read_ballots};
 use ballot_form::{Contest, Rule, Text};
@@ -139,11 +141,31 @@ fn answer<F: Files>(alloc: Global, words: &[String], files: &mut F) -> Result<Ou
     ensures kept { IfOk result (λ _. F.faults files.new ≡ F.faults files.old) }
 {
     match parse(alloc, words) {
+        Ok(Job::Tally { rule, file }) => tally_answer(alloc, rule, &file, files),
         Ok(Job::Margin { rule: _, file }) => margin_answer(alloc, &file, files),
         Ok(Job::Show { file }) => show_answer(alloc, &file, files),
         Err(WordFault::Memory) => Err(Stop::Memory),
         Err(fault) => Err(Stop::Words(fault)),
     }
+}
+
+/// The tally of the contest in a ballot file.
+fn tally_answer<F: Files>(
+    alloc: Global,
+    rule: Rule,
+    file: &Text,
+    files: &mut F,
+) -> Result<Output, Stop>
+    requires { IsRule rule }
+    ensures answers { AnswersOrMemory (record { told = F.told files.old; at = F.at files.new; before = F.faults files.old; now = F.faults files.new }) (Job.Tally rule file.now) result }
+    ensures told { F.told files.new ≡ F.told files.old }
+    ensures kept { IfOk result (λ _. F.faults files.new ≡ F.faults files.old) }
+{
+    let contest = load_contest(alloc, files, file)?;
+    Ok(Output {
+        ends: Status::Done,
+        text: List::from_vec(tally_text(alloc, &contest, rule)?),
+    })
 }
 
 /// The certificate of the contest in a ballot file.

@@ -57,6 +57,9 @@ fn word_line(fault: WordFault) -> &'static str
         WordFault::UnknownCommand => "mov: words: unknown command\n",
         WordFault::Line => "mov: words: wrong arguments\n",
         WordFault::UnknownRule => "mov: words: unknown rule\n",
+        WordFault::BadSeats => "mov: words: bad seats\n",
+        WordFault::SeatsMissing => "mov: words: seats missing\n",
+        WordFault::SeatsUnwanted => "mov: words: seats unwanted\n",
         WordFault::Memory => "mov: out of memory\n",
     }
 }

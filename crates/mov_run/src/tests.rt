@@ -15,7 +15,7 @@ fn words_of(alloc: Global, words: &[&str]) -> Result<Vec<String>, AllocError> {
 }
 
 /// Runs the words where the file `F` holds the text, and compares the status and what went out.
-fn expect<R: Abort>(
+pub(crate) fn expect<R: Abort>(
     rt: &R,
     alloc: Global,
     words: &[&str],

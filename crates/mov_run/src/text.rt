@@ -89,7 +89,7 @@ fn push_cuts(out: &mut Vec<u8>, count: u8) -> Result<(), Memory>
 }
 
 /// Adds a line of a word and a number.
-fn push_one(out: &mut Vec<u8>, word: &[u8], number: u64) -> Result<(), Memory>
+pub(crate) fn push_one(out: &mut Vec<u8>, word: &[u8], number: u64) -> Result<(), Memory>
     ensures { OnOk result (out.new.items ≡ out.old.items ++ line_text (word.now ∷ decimal number ∷ [])) }
 {
     out.extend_from_slice(word)?;
@@ -99,7 +99,12 @@ fn push_one(out: &mut Vec<u8>, word: &[u8], number: u64) -> Result<(), Memory>
 }
 
 /// Adds a line of a word and two numbers.
-fn push_two(out: &mut Vec<u8>, word: &[u8], number: u64, other: u64) -> Result<(), Memory>
+pub(crate) fn push_two(
+    out: &mut Vec<u8>,
+    word: &[u8],
+    number: u64,
+    other: u64,
+) -> Result<(), Memory>
     ensures { OnOk result (out.new.items ≡ out.old.items ++ line_text (word.now ∷ decimal number ∷ decimal other ∷ [])) }
 {
     out.extend_from_slice(word)?;
@@ -110,7 +115,7 @@ fn push_two(out: &mut Vec<u8>, word: &[u8], number: u64, other: u64) -> Result<(
 }
 
 /// Adds a space and a number.
-fn push_number(out: &mut Vec<u8>, number: u64) -> Result<(), Memory>
+pub(crate) fn push_number(out: &mut Vec<u8>, number: u64) -> Result<(), Memory>
     ensures { OnOk result (out.new.items ≡ out.old.items ++ 32 ∷ decimal number) }
 {
     let mut buffer = Buffer::new();

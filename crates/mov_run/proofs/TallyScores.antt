@@ -1,0 +1,49 @@
+-- From the scores to their lines.
+use Rattle.std.proofs.Common.{ℕ, List, ◌≡◌, ◌++◌, ◌∙◌, length, refl, sym, ap, subst, arith}
+use Rattle.std.specs.Prelude.{Result, IfOk, slice_index}
+use Rattle.ballot_form.specs.Ballots.{Poll}
+use Rattle.ballot_form.specs.Scores.{borda_points, plurality_points, score_of}
+use Rattle.ballot_form.specs.declared.outcome.Outcome.TheVariants.{Winner}
+use Rattle.ballot_form.specs.declared.rule.Rule.TheVariants.{Borda, Plurality}
+use Rattle.score_count.specs.Winners.{AreScores, IsScoreWinner}
+use Rattle.goal_rows.proofs.Reporting.{borda_winner, plurality_winner}
+use Rattle.mov_run.specs.Tally.{IsCounted, reported_text, score_text, scores_text}
+use Rattle.mov_run.proofs.Ranges.{each_same, if_ok}
+
+score_same : (f h : ℕ → ℕ) (x : ℕ) → f x ≡ h x → score_text f x ≡ score_text h x
+score_same f h x same = rw same refl
+
+scores_same : (points : List ℕ → ℕ → ℕ) (p : Poll) (scores : List ℕ) → AreScores points p scores
+    → scores_text (length scores) (λ x. slice_index scores x) ≡ scores_text p.c (score_of points p.rows)
+scores_same points p scores are =
+    ap (λ c. scores_text c (λ x. slice_index scores x)) are.one_each ∙ each_same (score_text (λ x. slice_index scores x)) (score_text (score_of points p.rows)) 0 p.c (λ x lo hi. score_same (λ y. slice_index scores y) (score_of points p.rows) x (are.each x (omega (arith, hi))))
+
+plurality_counted : (p : Poll) (scores text : List ℕ) (x : ℕ) → AreScores plurality_points p scores → IsScoreWinner scores x
+    → text ≡ scores_text (length scores) (λ y. slice_index scores y) ++ reported_text (Winner x) → IsCounted Plurality p text
+plurality_counted p scores text x are wins is = record {
+  count = scores_text (length scores) (λ y. slice_index scores y);
+  outcome = Winner x;
+  counted = scores_same plurality_points p scores are;
+  reported = plurality_winner p scores x are wins;
+  lines = is;
+}
+
+borda_counted : (p : Poll) (scores text : List ℕ) (x : ℕ) → AreScores (borda_points p.c) p scores → IsScoreWinner scores x
+    → text ≡ scores_text (length scores) (λ y. slice_index scores y) ++ reported_text (Winner x) → IsCounted Borda p text
+borda_counted p scores text x are wins is = record {
+  count = scores_text (length scores) (λ y. slice_index scores y);
+  outcome = Winner x;
+  counted = scores_same (borda_points p.c) p scores are;
+  reported = borda_winner p scores x are wins;
+  lines = is;
+}
+
+pub plurality_ok : {E : Type 0} (p : Poll) (list scores : List ℕ) (x : ℕ) (r : Result (List ℕ) E) → AreScores plurality_points p list → scores ≡ list → IsScoreWinner scores x
+    → IfOk r (λ text. text ≡ scores_text (length scores) (λ y. slice_index scores y) ++ reported_text (Winner x)) → IfOk r (λ text. IsCounted Plurality p text)
+plurality_ok p list scores x r are same wins is =
+    if_ok r (λ text lines. plurality_counted p scores text x (subst (λ xs. AreScores plurality_points p xs) (sym same) are) wins lines) is
+
+pub borda_ok : {E : Type 0} (p : Poll) (list scores : List ℕ) (x : ℕ) (r : Result (List ℕ) E) → AreScores (borda_points p.c) p list → scores ≡ list → IsScoreWinner scores x
+    → IfOk r (λ text. text ≡ scores_text (length scores) (λ y. slice_index scores y) ++ reported_text (Winner x)) → IfOk r (λ text. IsCounted Borda p text)
+borda_ok p list scores x r are same wins is =
+    if_ok r (λ text lines. borda_counted p scores text x (subst (λ xs. AreScores (borda_points p.c) p xs) (sym same) are) wins lines) is
