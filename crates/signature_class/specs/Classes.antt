@@ -8,6 +8,15 @@ abbrev pub add_class : {X : Type 0} → (X → X → Bool) → X → ℕ → Lis
 add_class same key n [] = (key, n) ∷ []
 add_class same key n (c ∷ cs) = if same key c.0 then (c.0, c.1 + n) ∷ cs else c ∷ add_class same key n cs
 
+-- so many more items of each key in turn
+abbrev pub add_all : {X : Type 0} → (X → X → Bool) → List (X × ℕ) → List (X × ℕ) → List (X × ℕ)
+add_all same cs [] = cs
+add_all same cs (a ∷ more) = add_all same (add_class same a.0 a.1 cs) more
+
+-- the classes of items that are keys themselves, each item counted in turn
+abbrev pub classes_of : {X : Type 0} → (X → X → Bool) → List X → List (X × ℕ)
+classes_of same xs = add_all same [] (map (λ x. (x, 1)) xs)
+
 -- the keys of the classes
 abbrev pub keys_of : {X : Type 0} → List (X × ℕ) → List X
 keys_of cs = map (λ c. c.0) cs

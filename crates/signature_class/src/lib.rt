@@ -7,10 +7,12 @@
 #![tactic(auto)]
 
 mod classes;
+mod laws;
 pub mod parts;
 mod rolls;
 
 pub use classes::Classes;
+pub use laws::classes_are_counted;
 pub use rolls::kinds;
 
 #[cfg(test)]

@@ -1,5 +1,4 @@
-use Rattle.std.proofs.Common.{List, ℕ, arith, sym, subst, take, ◌+◌}
-use Rattle.signature_class.specs.Classes.{AreClasses}
+use Rattle.std.proofs.Common.{arith, ◌∙◌}
 use Rattle.signature_class.proofs.Counts.{few_of_row, kinds_more}
 use Rattle.signature_class.proofs.rolls.kinds.Goals as goal
 
@@ -10,5 +9,4 @@ add-requires c = record {
 }
 
 pub loop-i-preserved : goal.loop-i-preserved
-loop-i-preserved c = subst (AreClasses (take (c.loop-i.i + 1) c.args.roll.now.rows)) (sym c.in_ok-add.ensures.added)
-    (kinds_more c.args.roll.now.rows c.loop-i.i c.row.result.now c.loop-i.kinds c.loop-i.invariant c.row.ensures.value)
+loop-i-preserved c = c.in_ok-add.ensures.added ∙ kinds_more c.args.roll.now.rows c.loop-i.i c.row.result.now c.loop-i.kinds c.loop-i.invariant c.row.ensures.value
