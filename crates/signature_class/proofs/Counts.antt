@@ -188,8 +188,26 @@ kinds_more rows i row cs is at =
     let here = get_or_from_slice_get rows i row row at in
     rw (take_more rows i row within, here, is) (sym (classes_of-push bytes_eq (take i rows) row))
 
+-- the sum over the classes after all of these
+pub add_up-add_all : {X : Type 0} (same : X → X → Bool) (decides : (a b : X) → Decides (same a b) (a ≡ b)) (f : X → ℕ) (cs more : List (X × ℕ))
+    → add_up (λ c. c.1 * f c.0) (add_all same cs more) ≡ add_up (λ c. c.1 * f c.0) cs + add_up (λ c. c.1 * f c.0) more
+add_up-add_all same decides f cs [] = omega arith
+add_up-add_all same decides f cs (a ∷ more) =
+    omega (arith, add_up-add_all same decides f (add_class same a.0 a.1 cs) more, add_up-add_class same decides f a.0 a.1 cs)
+
+-- how many items all classes have
+pub sum-times_one : {X : Type 0} (cs : List (X × ℕ)) → add_up (λ c. c.1 * 1) cs ≡ add_up (λ c. c.1) cs
+sum-times_one [] = refl
+sum-times_one (c ∷ cs) = omega (arith, sum-times_one cs)
+
+pub sum-add_all : (cs more : List (ℕ × ℕ)) → add_up (λ c. c.1) (add_all nat_eq cs more) ≡ add_up (λ c. c.1) cs + add_up (λ c. c.1) more
+sum-add_all cs more =
+    let a = add_up-add_all nat_eq Decides-eqb (λ _. 1) cs more in
+    let b = sum-times_one (add_all nat_eq cs more) in
+    omega (arith, a, b, sum-times_one cs, sum-times_one more)
+
 -- a class has at most as many items as there are
-count_le : {X : Type 0} (same : X → X → Bool) (x : X) (cs : List (X × ℕ)) → count_of same x cs ≤ add_up (λ c. c.1 * 1) cs
+pub count_le : {X : Type 0} (same : X → X → Bool) (x : X) (cs : List (X × ℕ)) → count_of same x cs ≤ add_up (λ c. c.1 * 1) cs
 count_le same x [] = omega arith
 count_le same x (c ∷ cs) = elim (bool_of (same x c.0)) [
   | inl t ↦ rw t (omega arith)
