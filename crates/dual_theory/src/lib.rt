@@ -1,0 +1,4 @@
+//! The theory of the exact method's runs.
+#![tactic(auto)]
+
+mod laws;
