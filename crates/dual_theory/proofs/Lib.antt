@@ -1,0 +1,5 @@
+pub mod Lex
+pub mod Sums
+pub mod Tests
+pub mod Directions
+pub mod Orders
