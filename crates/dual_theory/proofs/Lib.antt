@@ -5,3 +5,5 @@ pub mod Directions
 pub mod Orders
 pub mod Found
 pub mod Chosen
+pub mod Values
+pub mod First
