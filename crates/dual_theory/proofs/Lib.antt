@@ -7,3 +7,4 @@ pub mod Found
 pub mod Chosen
 pub mod Values
 pub mod First
+pub mod Runs
