@@ -8,3 +8,4 @@ pub mod Chosen
 pub mod Values
 pub mod First
 pub mod Runs
+pub mod Rising

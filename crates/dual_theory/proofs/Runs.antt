@@ -20,7 +20,7 @@ use Rattle.dual_theory.specs.Values.{value_of, IsDirection, IsBase, HasDirection
 use Rattle.dual_theory.specs.Runs.{GoesOn}
 use Rattle.dual_theory.proofs.Lex.{weaken}
 use Rattle.dual_theory.proofs.Directions.{find_row, row_link, combined, next_nonbasic, next_direction_leaving, next_direction_other}
-use Rattle.dual_theory.proofs.Orders.{IsColumn, other_rising, other_candidate, next_base}
+use Rattle.dual_theory.proofs.Orders.{IsColumn, other_rising, other_candidate, next_base, base_rises}
 use Rattle.dual_theory.proofs.Found.{one_row}
 use Rattle.dual_theory.proofs.Chosen.{leaving_negative, leaving_row, entering_column, entering_negative, entering_least, entering_free, is_column, step_is_next, goes_on}
 use Rattle.dual_theory.proofs.Values.{linear_direction, linear_base, not_all_zero}
@@ -195,21 +195,27 @@ module _ (p : Program) (t : Table) (r c : ℕ) (run : IsRun p t) (leaves : leavi
       ⊎_elim (λ (e : j ≡ basic_of t r). subst (HasDirection p (next_form t r c)) (sym e) leaving_direction) (λ was. other_direction j lj was both.0) both.1
 
   -- the base of the next form
-  pub base_next : HasBase p (next_form t r c)
-  base_next = record {
-    x = combined a old.x b enters_by.x;
-    d = a *ℤ old.d;
-    base = subst (λ (y : ℕ → ℤ). IsBase (tableau (next_form t r c)) y (a *ℤ old.d)) (sym (linear_base p old.x enters_by.x a b old.d)) (next_base (tableau t) (tableau (next_form t r c)) r c lead last (negsuc 0) divisors (value_of p old.x old.d) (value_of p enters_by.x (pos 0)) old.d pivot run.shape.solved old.base enters_by.direction free lt within low);
-  }
-    where
-      old : HasBase p t
-      old = run.base
+  abbrev pub up : ℤ
+  up = neg_ℤ (entry t r c) *ℤ value_of p enters_by.x (pos 0) c
 
-      a : ℤ
-      a = neg_ℤ (entry t r c) *ℤ value_of p enters_by.x (pos 0) c
+  abbrev pub over : ℤ
+  over = neg_ℤ (right_side t r) *ℤ run.base.d
 
-      b : ℤ
-      b = neg_ℤ (right_side t r) *ℤ old.d
+  abbrev pub next_x : ℕ → ℤ
+  next_x = combined up run.base.x over enters_by.x
+
+  pub base_next : IsBase (tableau (next_form t r c)) (value_of p next_x (up *ℤ run.base.d)) (up *ℤ run.base.d)
+  base_next = subst (λ (y : ℕ → ℤ). IsBase (tableau (next_form t r c)) y (up *ℤ run.base.d)) (sym (linear_base p run.base.x enters_by.x up over run.base.d)) (next_base (tableau t) (tableau (next_form t r c)) r c lead last (negsuc 0) divisors (value_of p run.base.x run.base.d) (value_of p enters_by.x (pos 0)) run.base.d pivot run.shape.solved run.base.base enters_by.direction free lt within low)
+
+  -- its values are above
+  pub base_above : LexPositive (1 + length p.costs) 0 (λ v. run.base.d *ℤ value_of p next_x (up *ℤ run.base.d) v -ℤ (up *ℤ run.base.d) *ℤ value_of p run.base.x run.base.d v)
+  base_above =
+      let d = run.base.d in
+      let under = negative in
+      let d_above : pos 0 <ℤ d = run.base.base.positive in
+      let over_above : pos 0 <ℤ over = positive_product (neg_ℤ (right_side t r)) d (omega (arith, ints, under)) d_above in
+      subst (λ (w : ℕ → ℤ). LexPositive (1 + length p.costs) 0 (λ v. d *ℤ w v -ℤ (up *ℤ d) *ℤ value_of p run.base.x d v)) (sym (linear_base p run.base.x enters_by.x up over d))
+      (base_rises (1 + length p.costs) (value_of p run.base.x d) (value_of p enters_by.x (pos 0)) up over d d_above over_above enters_by.positive)
 
   pub next_kept : IsRun p (next_form t r c)
   next_kept = record {
@@ -221,7 +227,7 @@ module _ (p : Program) (t : Table) (r c : ℕ) (run : IsRun p t) (leaves : leavi
     cost_above = cost_kept;
     sound = λ x d. next_holds (tableau t) (tableau (next_form t r c)) r c lead last (negsuc 0) divisors (value_of p x d) d pivot within (run.sound x d);
     directions = next_directions;
-    base = base_next;
+    base = record { x = next_x; d = up *ℤ run.base.d; base = base_next };
   }
 
 -- ---- the run
