@@ -9,3 +9,4 @@ pub mod Values
 pub mod First
 pub mod Runs
 pub mod Rising
+pub mod Falling
