@@ -10,3 +10,4 @@ pub mod First
 pub mod Runs
 pub mod Rising
 pub mod Falling
+pub mod Multiples
