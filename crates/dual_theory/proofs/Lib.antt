@@ -11,3 +11,5 @@ pub mod Runs
 pub mod Rising
 pub mod Falling
 pub mod Multiples
+pub mod Bridges
+pub mod Best

@@ -1,0 +1,221 @@
+-- Where the method ends in Best: the point of the form is the least point.
+use Rattle.std.proofs.Common.{ℕ, zero, suc, ◌≡◌, ◌≢◌, ◌<◌, ◌≤◌, ◌+◌, ◌-◌, ◌*◌, ◌/◌, arith, refl, ap, sym, ◌∙◌, inl, inr, ◌⊎◌, ⊎_elim, subst, List, [], ◌∷◌, length, get_or, map, Some, None}
+use Rattle.std.specs.Prelude.{ℤ, pos, negsuc, ◌+ℤ◌, ◌*ℤ◌, ◌-ℤ◌, ◌<ℤ◌, ◌≤ℤ◌, unsigned_abs, slice_index_or}
+use Prim.Native.Nat.{◌∣◌}
+use Rattle.std.specs.List.{All, range_with_len}
+use Rattle.std.proofs.Math.Path.{fun_ext}
+use Rattle.std.proofs.lemmas.Int.{ints}
+use Rattle.std.proofs.lemmas.Bool.{cases_eq, cases_lt}
+use Rattle.std.proofs.lemmas.List.{get_or_past, get_or_default}
+use Rattle.std.proofs.lemmas.List.FromFn.{length-map-range_with_len, get_or-map-range_with_len}
+use Rattle.std.proofs.lemmas.Nat.Gcd.{dvd_trans, le_of_dvd}
+use Rattle.std.proofs.Math.Nat.{one-dvd}
+use Rattle.row_program.specs.Sums.{sum_from, LexPositive, LexNonnegative}
+use Rattle.row_program.specs.Forms.{Table, entry, right_side, basic_of, tableau, empty_row, variable_count, IsNonbasic}
+use Rattle.row_program.specs.Method.{row_of_basic, column, leaving, IsBest}
+use Rattle.row_program.specs.Points.{row_value, IsPoint, cost_of, IsLeastCost, IsLexAtMost, SameValues, IsLeastPoint}
+use Rattle.row_program.specs.declared.program.Row.{Row}
+use Rattle.row_program.specs.declared.program.Program.{Program}
+use Rattle.exact_num.specs.Divisors.{gcd_of}
+use Rattle.exact_num.proofs.Divisors.{lowest as lowest_divides}
+use Rattle.exact_num.proofs.Ring.{leaf, plus, minus, times, opposite, same}
+use Rattle.pivot_form.proofs.Sums.{positive_product, positive_factor, zero_factor, zero_times, cancel}
+use Rattle.dual_theory.specs.Values.{value_of, IsBase, IsRun}
+use Rattle.dual_theory.specs.Runs.{num_in, den_in, value_num, value_den}
+use Rattle.dual_theory.specs.Ends.{lcm_of, lowest_by, lowest_num, lowest_den, common_den, whole_number, whole_numbers, point_whole, point_den}
+use Rattle.dual_theory.proofs.Lex.{LexNonnegative-times, LexNonnegative-same_signs}
+use Rattle.dual_theory.proofs.Orders.{base_value, base_least}
+use Rattle.dual_theory.proofs.Found.{option_cases, row_of_some, row_of_is}
+use Rattle.dual_theory.proofs.Chosen.{leaving_none, is_column}
+use Rattle.dual_theory.proofs.Rising.{value_den_positive, value_at_base, column_positive}
+use Rattle.dual_theory.proofs.Multiples.{exact_quotient, cancel_nat, num_back, den_back, den_above, in_lowest, lcm_left, lcm_right, lcm_above, lcm_least}
+use Rattle.dual_theory.proofs.Bridges.{as_values, value_cost_is, value_own_is, value_slack_is, point_above, in_proportion}
+use Rattle.dual_theory.proofs.Values.{value_own}
+
+-- ---- signs
+pub nonnegative_factor : (g b : ℤ) → pos 0 <ℤ g → pos 0 ≤ℤ (g *ℤ b) → pos 0 ≤ℤ b
+nonnegative_factor g (pos b) h k = omega (arith, ints)
+nonnegative_factor g (negsuc b) h k =
+    let q = positive_product g (neg_of b) h (omega (arith, ints)) in
+    let ring : g *ℤ neg_of b ≡ pos 0 -ℤ g *ℤ negsuc b = same (times (leaf g) (minus (leaf (pos 0)) (leaf (negsuc b)))) (minus (leaf (pos 0)) (times (leaf g) (leaf (negsuc b)))) (omega arith) in
+    absurd (omega (arith, ints, q, ring, k))
+  where
+    neg_of : ℕ → ℤ
+    neg_of c = pos 0 -ℤ negsuc c
+
+pub nonnegative_product : (a b : ℤ) → pos 0 ≤ℤ a → pos 0 ≤ℤ b → pos 0 ≤ℤ (a *ℤ b)
+nonnegative_product (pos a) (pos b) h k = omega (arith, ints)
+nonnegative_product (pos a) (negsuc b) h k = absurd (omega (arith, ints, k))
+nonnegative_product (negsuc a) b h k = absurd (omega (arith, ints, h))
+
+-- ---- the values of a form where nothing is negative
+pub value_num_above : (t : Table) (p : Program) (v : ℕ) → IsRun p t → IsBest t → pos 0 ≤ℤ value_num t v
+value_num_above t p v run best =
+    ⊎_elim
+    (λ none. subst (λ (x : ℤ). pos 0 ≤ℤ x) (sym (ap (num_in t) none)) (omega (arith, ints)))
+    (λ some. let found = row_of_some t v some.0 run.shape.basics some.1 in subst (λ (x : ℤ). pos 0 ≤ℤ x) (sym (ap (num_in t) some.1)) (leaving_none t some.0 run.shape best found.0))
+    (option_cases (row_of_basic t v))
+
+-- ---- in lowest terms
+module _ (t : Table) (positive : (v : ℕ) → pos 0 <ℤ value_den t v) where
+  den_size_above : (v : ℕ) → 0 < unsigned_abs (value_den t (v + 1))
+  den_size_above v = let h = positive (v + 1) in omega (arith, ints, h)
+
+  pub lowest_den_above : (v : ℕ) → 0 < lowest_den t v
+  lowest_den_above v = den_above (unsigned_abs (value_num t (v + 1))) (unsigned_abs (value_den t (v + 1))) (den_size_above v)
+
+  pub common_den_above : (n : ℕ) → 0 < common_den t n
+  common_den_above zero = omega arith
+  common_den_above (suc n) = lcm_above (common_den t n) (lowest_den t n) (common_den_above n) (lowest_den_above n)
+
+  pub common_den_divided : (n v : ℕ) → v < n → lowest_den t v ∣ common_den t n
+  common_den_divided zero v h = absurd (omega (arith, h))
+  common_den_divided (suc n) v h =
+      ⊎_elim
+      (λ (e : v ≡ n). subst (λ (u : ℕ). lowest_den t u ∣ common_den t (suc n)) (sym e) (lcm_right (common_den t n) (lowest_den t n) (common_den_above n) (lowest_den_above n)))
+      (λ apart. dvd_trans (lowest_den t v) (common_den_divided n v (omega (arith, h, apart))) (lcm_left (common_den t n) (lowest_den t n) (common_den_above n) (lowest_den_above n)))
+      (cases_eq v n)
+
+  pub common_den_least : (n m : ℕ) → ((v : ℕ) → v < n → lowest_den t v ∣ m) → common_den t n ∣ m
+  common_den_least zero m h = one-dvd m
+  common_den_least (suc n) m h = lcm_least (common_den t n) (lowest_den t n) (common_den_above n) (lowest_den_above n) m (common_den_least n m (λ v l. h v (omega (arith, l)))) (h n (omega arith))
+
+  -- the number over the common denominator is the value
+  pub whole_in_lowest : (n v : ℕ) → v < n → whole_number t n v * lowest_den t v ≡ common_den t n * lowest_num t v
+  whole_in_lowest n v h =
+      let e = exact_quotient (common_den t n) (lowest_den t v) (common_den_divided n v h) in
+      product_same (lowest_num t v) (common_den t n / lowest_den t v) (lowest_den t v) (common_den t n) e
+    where
+      product_same : (a q d m : ℕ) → q * d ≡ m → a * q * d ≡ m * a
+      product_same a q d m e = omega (arith, ap (λ (x : ℕ). a * x) e)
+
+  pub whole_is : (n v : ℕ) → v < n → whole_number t n v * unsigned_abs (value_den t (v + 1)) ≡ common_den t n * unsigned_abs (value_num t (v + 1))
+  whole_is n v h =
+      let e = whole_in_lowest n v h in
+      let a = num_back (unsigned_abs (value_num t (v + 1))) (unsigned_abs (value_den t (v + 1))) (den_size_above v) in
+      let b = den_back (unsigned_abs (value_num t (v + 1))) (unsigned_abs (value_den t (v + 1))) (den_size_above v) in
+      times_by (whole_number t n v) (lowest_den t v) (common_den t n) (lowest_num t v) (lowest_by t v) (unsigned_abs (value_num t (v + 1))) (unsigned_abs (value_den t (v + 1))) e a b
+    where
+      times_by : (w d c m g x y : ℕ) → w * d ≡ c * m → m * g ≡ x → d * g ≡ y → w * y ≡ c * x
+      times_by w d c m g x y e a b = omega (arith, ap (λ (k : ℕ). k * g) e, ap (λ (k : ℕ). c * k) a, ap (λ (k : ℕ). w * k) b)
+
+-- ---- the point
+module _ (p : Program) (t : Table) (run : IsRun p t) (best : IsBest t) where
+  abbrev n : ℕ
+  n = length p.costs
+
+  abbrev whole : List ℕ
+  whole = point_whole p t
+
+  abbrev den : ℕ
+  den = point_den p t
+
+  abbrev base : ℕ → ℤ
+  base = value_of p run.base.x run.base.d
+
+  abbrev d : ℤ
+  d = run.base.d
+
+  d_above : pos 0 <ℤ d
+  d_above = run.base.base.positive
+
+  positive : (v : ℕ) → pos 0 <ℤ value_den t v
+  positive v = value_den_positive t v run.shape
+
+  pub den_above_zero : 0 < den
+  den_above_zero = common_den_above t positive n
+
+  whole_length : length whole ≡ n
+  whole_length = length-map-range_with_len (whole_number t n) 0 n
+
+  whole_at : (v : ℕ) → v < n → get_or whole v 0 ≡ whole_number t n v
+  whole_at v h = get_or-map-range_with_len (whole_number t n) 0 n v v 0 h (omega arith)
+
+  base_above : (j : ℕ) → j < t.variables → pos 0 ≤ℤ base j
+  base_above j h =
+      let e = value_at_base t base d j run.shape run.base.base h in
+      let num = value_num_above t p j run best in
+      let above = d_above in
+      let q = nonnegative_product (value_num t j) d num (omega (arith, ints, above)) in
+      nonnegative_factor (value_den t j) (base j) (positive j) (omega (arith, ints, e, q))
+
+  -- the numbers are the values of the base, in another denominator
+  in_ratio : (v : ℕ) → v < n → d *ℤ as_values whole v ≡ pos den *ℤ run.base.x v
+  in_ratio v h =
+      let inside : v + 1 < t.variables = omega (arith, h, run.variables) in
+      let e = value_at_base t base d (v + 1) run.shape run.base.base inside in
+      let own : base (v + 1) ≡ run.base.x v = own_base v h in
+      let num = value_num_above t p (v + 1) run best in
+      let low = positive (v + 1) in
+      let is = whole_is t positive n v h in
+      let at = whole_at v h in
+      cancel (value_den t (v + 1)) (d *ℤ as_values whole v) (pos den *ℤ run.base.x v) low
+      (ratio_identity (value_num t (v + 1)) (value_den t (v + 1)) d (run.base.x v) (get_or whole v 0) den (unsigned_abs (value_num t (v + 1))) (unsigned_abs (value_den t (v + 1)))
+      (omega (arith, ints, num)) (omega (arith, ints, low)) (ap (λ (k : ℕ). k * unsigned_abs (value_den t (v + 1))) at ∙ is) (ap (λ (z : ℤ). value_den t (v + 1) *ℤ z) (sym own) ∙ e))
+    where
+      own_base : (v : ℕ) → v < n → base (v + 1) ≡ run.base.x v
+      own_base v h = value_own p run.base.x run.base.d (v + 1) (omega arith) (omega (arith, h)) ∙ (let back : v + 1 - 1 ≡ v = omega arith in ap run.base.x back)
+
+      ratio_identity : (num low d x : ℤ) (w c a b : ℕ) → pos a ≡ num → pos b ≡ low → w * b ≡ c * a → low *ℤ x ≡ num *ℤ d → low *ℤ (d *ℤ pos w) ≡ low *ℤ (pos c *ℤ x)
+      ratio_identity num low d x w c a b e f g h =
+          let D = leaf d in let W = leaf (pos w) in let C = leaf (pos c) in let L = leaf low in let X = leaf x in let N = leaf num in
+          let product : pos w *ℤ pos b ≡ pos c *ℤ pos a = omega (arith, ints, g) in
+          let put : pos w *ℤ low ≡ pos c *ℤ num = sym (ap (λ (z : ℤ). pos w *ℤ z) f) ∙ product ∙ ap (λ (z : ℤ). pos c *ℤ z) e in
+          same (times L (times D W)) (times D (times W L)) (omega arith)
+          ∙ ap (λ (z : ℤ). d *ℤ z) put
+          ∙ same (times D (times C N)) (times C (times N D)) (omega arith)
+          ∙ ap (λ (z : ℤ). pos c *ℤ z) (sym h)
+          ∙ same (times C (times L X)) (times L (times C X)) (omega arith)
+
+  -- so are all values
+  pub in_ratio_all : (j : ℕ) → d *ℤ value_of p (as_values whole) (pos den) j ≡ pos den *ℤ base j
+  in_ratio_all = in_proportion p (as_values whole) run.base.x (pos den) d in_ratio
+
+  whole_above : (j : ℕ) → j < t.variables → pos 0 ≤ℤ value_of p (as_values whole) (pos den) j
+  whole_above j h =
+      let e = in_ratio_all j in
+      let q = nonnegative_product (pos den) (base j) (omega (arith, ints)) (base_above j h) in
+      nonnegative_factor d (value_of p (as_values whole) (pos den) j) d_above (omega (arith, ints, e, q))
+
+  pub is_point : IsPoint p whole den
+  is_point = record {
+    all_variables = whole_length;
+    positive = let h = den_above_zero in omega (arith, h);
+    meets = λ i e h. subst (λ (row : Row). pos 0 ≤ℤ row_value row whole den) (get_or_default p.rows i empty_row e h) (let is = value_slack_is p whole den i h in let above = whole_above (1 + n + i) (omega (arith, h, run.variables)) in omega (arith, ints, is, above));
+  }
+
+  -- ---- least among all points
+  least_values : (ys : List ℕ) (e : ℕ) → IsPoint p ys e → LexNonnegative (1 + n) 0 (λ v. pos den *ℤ value_of p (as_values ys) (pos e) v -ℤ pos e *ℤ value_of p (as_values whole) (pos den) v)
+  least_values ys e point =
+      LexNonnegative-same_signs (λ v. d) (1 + n) 0 (λ v. pos den *ℤ (d *ℤ y v -ℤ pos e *ℤ base v)) (λ v. pos den *ℤ y v -ℤ pos e *ℤ value_of p (as_values whole) (pos den) v)
+      (λ v l. (d_above, one (y v) (base v) (value_of p (as_values whole) (pos den) v) (in_ratio_all v)))
+      (LexNonnegative-times (pos den) (omega (arith, ints)) (1 + n) 0 (λ v. d *ℤ y v -ℤ pos e *ℤ base v)
+      (base_least (tableau t) (1 + n) (column t) base d y (pos e) run.shape.solved run.base.base (run.sound (as_values ys) (pos e)) (λ j h. point_above p ys e point j (omega (arith, h, run.variables))) (λ j h free. is_column t j run.shape free) (λ j h free. column_positive p t j run h free) (omega (arith, run.variables))))
+    where
+      y : ℕ → ℤ
+      y = value_of p (as_values ys) (pos e)
+
+      one : (a b w : ℤ) → d *ℤ w ≡ pos den *ℤ b → pos den *ℤ (d *ℤ a -ℤ pos e *ℤ b) ≡ d *ℤ (pos den *ℤ a -ℤ pos e *ℤ w)
+      one a b w g =
+          let A = leaf a in let B = leaf b in let W = leaf w in let D = leaf d in let E = leaf (pos e) in let C = leaf (pos den) in
+          same (times C (minus (times D A) (times E B))) (minus (times D (times C A)) (times E (times C B))) (omega arith)
+          ∙ ap (λ (z : ℤ). d *ℤ (pos den *ℤ a) -ℤ pos e *ℤ z) (sym g)
+          ∙ same (minus (times D (times C A)) (times E (times D W))) (times D (minus (times C A) (times E W))) (omega arith)
+
+  front : (m : ℕ) (f : ℕ → ℤ) → LexNonnegative (1 + m) 0 f → (pos 0 <ℤ f 0) ⊎ ((f 0 ≡ pos 0) × LexNonnegative m 1 f)
+  front m f h = let e : 1 + m ≡ suc m = omega arith in subst (λ (k : ℕ). LexNonnegative k 0 f) e h
+
+  cost_gap : (ys : List ℕ) (e : ℕ) → IsPoint p ys e → pos den *ℤ value_of p (as_values ys) (pos e) 0 -ℤ pos e *ℤ value_of p (as_values whole) (pos den) 0 ≡ pos (cost_of p.costs ys * den) -ℤ pos (cost_of p.costs whole * e)
+  cost_gap ys e point =
+      let a = value_cost_is p ys e point.all_variables in
+      let b = value_cost_is p whole den whole_length in
+      ap (λ (z : ℤ). pos den *ℤ z -ℤ pos e *ℤ value_of p (as_values whole) (pos den) 0) a ∙ ap (λ (z : ℤ). pos den *ℤ pos (cost_of p.costs ys) -ℤ pos e *ℤ z) b ∙ swap den (cost_of p.costs ys) e (cost_of p.costs whole)
+    where
+      swap : (a b c d : ℕ) → pos a *ℤ pos b -ℤ pos c *ℤ pos d ≡ pos (b * a) -ℤ pos (d * c)
+      swap a b c d = omega (arith, ints)
+
+  pub cheapest : (ys : List ℕ) (e : ℕ) → IsPoint p ys e → cost_of p.costs whole * e ≤ cost_of p.costs ys * den
+  cheapest ys e point =
+      let gap = cost_gap ys e point in
+      ⊎_elim (λ more. omega (arith, ints, gap, more)) (λ level. let z = level.0 in omega (arith, ints, gap, z))
+      (front n (λ v. pos den *ℤ value_of p (as_values ys) (pos e) v -ℤ pos e *ℤ value_of p (as_values whole) (pos den) v) (least_values ys e point))
