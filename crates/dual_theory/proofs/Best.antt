@@ -99,6 +99,18 @@ module _ (t : Table) (positive : (v : ℕ) → pos 0 <ℤ value_den t v) where
       times_by : (w d c m g x y : ℕ) → w * d ≡ c * m → m * g ≡ x → d * g ≡ y → w * y ≡ c * x
       times_by w d c m g x y e a b = omega (arith, ap (λ (k : ℕ). k * g) e, ap (λ (k : ℕ). c * k) a, ap (λ (k : ℕ). w * k) b)
 
+-- ---- lists in lexicographic order
+lex_lists : (xs ys : List ℕ) (d e v : ℕ) (f : ℕ → ℤ) → ((k : ℕ) → k < length xs → f (v + k) ≡ pos (get_or ys k 0 * d) -ℤ pos (get_or xs k 0 * e)) → LexNonnegative (length xs) v f → IsLexAtMost xs d ys e
+lex_lists [] ys d e v f h l = tt
+lex_lists (x ∷ xs) [] d e v f h l = tt
+lex_lists (x ∷ xs) (y ∷ ys) d e v f h (inl more) =
+    let here : f v ≡ pos (y * d) -ℤ pos (x * e) = ap f (let k : v ≡ v + 0 = omega arith in k) ∙ h 0 (omega arith) in
+    inl (omega (arith, ints, here, more))
+lex_lists (x ∷ xs) (y ∷ ys) d e v f h (inr rest) =
+    let here : f v ≡ pos (y * d) -ℤ pos (x * e) = ap f (let k : v ≡ v + 0 = omega arith in k) ∙ h 0 (omega arith) in
+    let level = rest.0 in
+    inr (omega (arith, ints, here, level), lex_lists xs ys d e (suc v) f (λ k l. ap f (let m : suc v + k ≡ v + suc k = omega arith in m) ∙ h (suc k) (omega (arith, l))) rest.1)
+
 -- ---- the point
 module _ (p : Program) (t : Table) (run : IsRun p t) (best : IsBest t) where
   abbrev n : ℕ
@@ -219,3 +231,82 @@ module _ (p : Program) (t : Table) (run : IsRun p t) (best : IsBest t) where
       let gap = cost_gap ys e point in
       ⊎_elim (λ more. omega (arith, ints, gap, more)) (λ level. let z = level.0 in omega (arith, ints, gap, z))
       (front n (λ v. pos den *ℤ value_of p (as_values ys) (pos e) v -ℤ pos e *ℤ value_of p (as_values whole) (pos den) v) (least_values ys e point))
+
+  own_gap : (ys : List ℕ) (e v : ℕ) → v < n → pos den *ℤ value_of p (as_values ys) (pos e) (suc v) -ℤ pos e *ℤ value_of p (as_values whole) (pos den) (suc v) ≡ pos (get_or ys v 0 * den) -ℤ pos (get_or whole v 0 * e)
+  own_gap ys e v l =
+      let a = value_own_is p ys e v l in
+      let b = value_own_is p whole den v l in
+      ap (λ (z : ℤ). pos den *ℤ z -ℤ pos e *ℤ value_of p (as_values whole) (pos den) (suc v)) a ∙ ap (λ (z : ℤ). pos den *ℤ pos (get_or ys v 0) -ℤ pos e *ℤ z) b ∙ swap den (get_or ys v 0) e (get_or whole v 0)
+    where
+      swap : (a b c d : ℕ) → pos a *ℤ pos b -ℤ pos c *ℤ pos d ≡ pos (b * a) -ℤ pos (d * c)
+      swap a b c d = omega (arith, ints)
+
+  pub lex_least : (ys : List ℕ) (e : ℕ) → IsPoint p ys e → cost_of p.costs ys * den ≡ cost_of p.costs whole * e → IsLexAtMost whole den ys e
+  lex_least ys e point level =
+      let gap = cost_gap ys e point in
+      ⊎_elim (λ more. absurd (omega (arith, ints, gap, more, level)))
+      (λ rest. lex_lists whole ys den e 1 (λ v. pos den *ℤ value_of p (as_values ys) (pos e) v -ℤ pos e *ℤ value_of p (as_values whole) (pos den) v)
+      (λ k h. ap (λ v. pos den *ℤ value_of p (as_values ys) (pos e) v -ℤ pos e *ℤ value_of p (as_values whole) (pos den) v) (one_more k) ∙ own_gap ys e k (omega (arith, h, whole_length)))
+      (subst (λ (m : ℕ). LexNonnegative m 1 (λ v. pos den *ℤ value_of p (as_values ys) (pos e) v -ℤ pos e *ℤ value_of p (as_values whole) (pos den) v)) (sym whole_length) rest.1))
+      (front n (λ v. pos den *ℤ value_of p (as_values ys) (pos e) v -ℤ pos e *ℤ value_of p (as_values whole) (pos den) v) (least_values ys e point))
+    where
+      one_more : (k : ℕ) → 1 + k ≡ suc k
+      one_more k = omega arith
+
+  pub den_least : (ys : List ℕ) (e : ℕ) → IsPoint p ys e → SameValues whole den ys e → den ≤ e
+  den_least ys e point same_values =
+      let low = point.positive in
+      le_of_dvd (omega (arith, low)) (common_den_least t positive n e (λ v l. lowest_divides (lowest_num t v) (lowest_den t v) (get_or ys v 0) e (in_lowest (unsigned_abs (value_num t (v + 1))) (unsigned_abs (value_den t (v + 1))) (size_above v)) (in_lowest_terms v l)))
+    where
+      size_above : (v : ℕ) → 0 < unsigned_abs (value_den t (v + 1))
+      size_above v = let h = positive (v + 1) in omega (arith, ints, h)
+
+      swap : (y m c w k e : ℕ) → w * e ≡ y * c → w * m ≡ c * k → 0 < c → y * m ≡ k * e
+      swap y m c w k e f g h = cancel_nat c (y * m) (k * e) h (omega (arith, ap (λ (x : ℕ). x * m) f, ap (λ (x : ℕ). x * e) g))
+
+      in_lowest_terms : (v : ℕ) → v < n → get_or ys v 0 * lowest_den t v ≡ lowest_num t v * e
+      in_lowest_terms v l = swap (get_or ys v 0) (lowest_den t v) den (whole_number t n v) (lowest_num t v) e (ap (λ (w : ℕ). w * e) (sym (whole_at v l)) ∙ same_values v) (whole_in_lowest t positive n v l) den_above_zero
+
+  pub best_point : IsLeastPoint p whole den
+  best_point = record { point = is_point; cheapest = cheapest; least = lex_least; lowest = den_least }
+
+  -- ---- the least cost
+  cost_value : pos (cost_of p.costs whole) *ℤ entry t 0 0 ≡ right_side t 0 *ℤ pos den
+  cost_value =
+      let top : 0 < length t.rows = omega (arith, run.height) in
+      let at : entry t 0 0 *ℤ base 0 ≡ right_side t 0 *ℤ d = subst (λ (b : ℕ). entry t 0 b *ℤ base b ≡ right_side t 0 *ℤ d) run.cost_first (base_value (tableau t) base d run.shape.solved run.base.base 0 top) in
+      let ratio = in_ratio_all 0 in
+      let is = value_cost_is p whole den whole_length in
+      cancel d (pos (cost_of p.costs whole) *ℤ entry t 0 0) (right_side t 0 *ℤ pos den) d_above
+      (identity (pos (cost_of p.costs whole)) (entry t 0 0) (right_side t 0) (pos den) d (base 0) (ap (λ (z : ℤ). d *ℤ z) (sym is) ∙ ratio) at)
+    where
+      identity : (c e r m d b : ℤ) → d *ℤ c ≡ m *ℤ b → e *ℤ b ≡ r *ℤ d → d *ℤ (c *ℤ e) ≡ d *ℤ (r *ℤ m)
+      identity c e r m d b f g =
+          let C = leaf c in let E = leaf e in let R = leaf r in let M = leaf m in let D = leaf d in let B = leaf b in
+          same (times D (times C E)) (times (times D C) E) (omega arith)
+          ∙ ap (λ (z : ℤ). z *ℤ e) f
+          ∙ same (times (times M B) E) (times M (times E B)) (omega arith)
+          ∙ ap (λ (z : ℤ). m *ℤ z) g
+          ∙ same (times M (times R D)) (times D (times R M)) (omega arith)
+
+  cost_entry_above : pos 0 <ℤ entry t 0 0
+  cost_entry_above = subst (λ (b : ℕ). pos 0 <ℤ entry t 0 b) run.cost_first (run.shape.solved.positive 0 (omega (arith, run.height)))
+
+  pub best_cost : IsLeastCost p (right_side t 0) (entry t 0 0)
+  best_cost = record {
+    positive = cost_entry_above;
+    reached = (whole, den, is_point, cost_value);
+    least = λ ys e point. compare (cost_of p.costs whole) (cost_of p.costs ys) den e (right_side t 0) (entry t 0 0) den_above_zero cost_entry_above cost_value (cheapest ys e point);
+  }
+    where
+      compare : (c k m e : ℕ) (r f : ℤ) → 0 < m → pos 0 <ℤ f → pos c *ℤ f ≡ r *ℤ pos m → c * e ≤ k * m → (r *ℤ pos e) ≤ℤ (pos k *ℤ f)
+      compare c k m e r f h i g l =
+          let C = leaf (pos c) in let K = leaf (pos k) in let M = leaf (pos m) in let E = leaf (pos e) in let R = leaf r in let F = leaf f in
+          let gap : pos m *ℤ (pos k *ℤ f -ℤ r *ℤ pos e) ≡ f *ℤ (pos k *ℤ pos m -ℤ pos c *ℤ pos e)
+            = same (times M (minus (times K F) (times R E))) (minus (times F (times K M)) (times (times R M) E)) (omega arith)
+            ∙ ap (λ (z : ℤ). f *ℤ (pos k *ℤ pos m) -ℤ z *ℤ pos e) (sym g)
+            ∙ same (minus (times F (times K M)) (times (times C F) E)) (times F (minus (times K M) (times C E))) (omega arith) in
+          let low : pos 0 ≤ℤ (pos k *ℤ pos m -ℤ pos c *ℤ pos e) = omega (arith, ints, l) in
+          let q = nonnegative_product f (pos k *ℤ pos m -ℤ pos c *ℤ pos e) (omega (arith, ints, i)) low in
+          let z = nonnegative_factor (pos m) (pos k *ℤ f -ℤ r *ℤ pos e) (omega (arith, ints, h)) (omega (arith, ints, gap, q)) in
+          omega (arith, ints, z)

@@ -13,3 +13,4 @@ pub mod Falling
 pub mod Multiples
 pub mod Bridges
 pub mod Best
+pub mod Unique
