@@ -14,3 +14,4 @@ pub mod Multiples
 pub mod Bridges
 pub mod Best
 pub mod Unique
+pub mod Shown

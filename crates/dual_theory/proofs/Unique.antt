@@ -35,7 +35,7 @@ least_unique p xs d ys e a b =
 
 -- ---- a value as another fraction
 -- num / den is at most c / m, and a / b is num / den
-carried : (num den a b c m : ℤ) → pos 0 <ℤ den → pos 0 <ℤ b → a *ℤ den ≡ num *ℤ b → (num *ℤ m) ≤ℤ (c *ℤ den) → (a *ℤ m) ≤ℤ (c *ℤ b)
+pub carried : (num den a b c m : ℤ) → pos 0 <ℤ den → pos 0 <ℤ b → a *ℤ den ≡ num *ℤ b → (num *ℤ m) ≤ℤ (c *ℤ den) → (a *ℤ m) ≤ℤ (c *ℤ b)
 carried num den a b c m h i e l =
     let N = leaf num in let D = leaf den in let A = leaf a in let B = leaf b in let C = leaf c in let M = leaf m in
     let gap : den *ℤ (c *ℤ b -ℤ a *ℤ m) ≡ b *ℤ (c *ℤ den -ℤ num *ℤ m)
