@@ -15,3 +15,4 @@ pub mod Bridges
 pub mod Best
 pub mod Unique
 pub mod Shown
+pub mod Wide
