@@ -16,3 +16,5 @@ pub mod Best
 pub mod Unique
 pub mod Shown
 pub mod Wide
+pub mod Ending
+mod Examples

@@ -3,7 +3,7 @@ use Rattle.std.specs.Prelude.{ℕ, ℤ, suc, zero, ◌≡◌, ◌<◌, ◌+◌, 
 use Rattle.std.specs.List.{range_with_len}
 use Rattle.exact_num.specs.Divisors.{gcd_of}
 use Rattle.row_program.specs.Forms.{Table, first_large_of}
-use Rattle.row_program.specs.Method.{run_of, IsBest}
+use Rattle.row_program.specs.Method.{run_of, IsBest, IsNever, IsWide}
 use Rattle.row_program.specs.declared.program.Program.{Program}
 use Rattle.dual_theory.specs.Runs.{value_num, value_den}
 
@@ -49,3 +49,7 @@ abbrev pub IsWideSize : Program → ℕ → Type 0
 IsWideSize p size =
     ((k : ℕ) × (first_large_of (run_of p k).rows ≡ Some size) × ((j : ℕ) → j < k → first_large_of (run_of p j).rows ≡ None))
     ⊎ ((k : ℕ) × IsBest (run_of p k) × ((j : ℕ) → first_large_of (run_of p j).rows ≡ None) × (large_in_point p (run_of p k) ≡ Some size))
+
+-- a run ends: the program is wide, or it isn't and some form is the last
+abbrev pub HasEnd : Program → Type 0
+HasEnd p = ((size : ℕ) × IsWideSize p size) ⊎ ((k : ℕ) × (IsBest (run_of p k) ⊎ IsNever (run_of p k)) × (IsWide p → ⊥))
