@@ -1,31 +1,28 @@
 -- Where the method ends in Best: the point of the form is the least point.
-use Rattle.std.proofs.Common.{ℕ, zero, suc, ◌≡◌, ◌≢◌, ◌<◌, ◌≤◌, ◌+◌, ◌-◌, ◌*◌, ◌/◌, arith, refl, ap, sym, ◌∙◌, inl, inr, ◌⊎◌, ⊎_elim, subst, List, [], ◌∷◌, length, get_or, map, Some, None}
-use Rattle.std.specs.Prelude.{ℤ, pos, negsuc, ◌+ℤ◌, ◌*ℤ◌, ◌-ℤ◌, ◌<ℤ◌, ◌≤ℤ◌, unsigned_abs, slice_index_or}
+use Rattle.std.proofs.Common.{ℕ, zero, suc, ◌≡◌, ◌<◌, ◌≤◌, ◌+◌, ◌-◌, ◌*◌, ◌/◌, arith, ap, sym, ◌∙◌, inl, inr, ◌⊎◌, ⊎_elim, subst, List, [], ◌∷◌, length, get_or}
+use Rattle.std.specs.Prelude.{ℤ, pos, negsuc, ◌*ℤ◌, ◌-ℤ◌, ◌<ℤ◌, ◌≤ℤ◌, unsigned_abs}
 use Prim.Native.Nat.{◌∣◌}
-use Rattle.std.specs.List.{All, range_with_len}
-use Rattle.std.proofs.Math.Path.{fun_ext}
 use Rattle.std.proofs.lemmas.Int.{ints}
-use Rattle.std.proofs.lemmas.Bool.{cases_eq, cases_lt}
-use Rattle.std.proofs.lemmas.List.{get_or_past, get_or_default}
+use Rattle.std.proofs.lemmas.Bool.{cases_eq}
+use Rattle.std.proofs.lemmas.List.{get_or_default}
 use Rattle.std.proofs.lemmas.List.FromFn.{length-map-range_with_len, get_or-map-range_with_len}
 use Rattle.std.proofs.lemmas.Nat.Gcd.{dvd_trans, le_of_dvd}
 use Rattle.std.proofs.Math.Nat.{one-dvd}
-use Rattle.row_program.specs.Sums.{sum_from, LexPositive, LexNonnegative}
-use Rattle.row_program.specs.Forms.{Table, entry, right_side, basic_of, tableau, empty_row, variable_count, IsNonbasic}
-use Rattle.row_program.specs.Method.{row_of_basic, column, leaving, IsBest}
+use Rattle.row_program.specs.Sums.{LexNonnegative}
+use Rattle.row_program.specs.Forms.{Table, entry, right_side, tableau, empty_row}
+use Rattle.row_program.specs.Method.{row_of_basic, column, IsBest}
 use Rattle.row_program.specs.Points.{row_value, IsPoint, cost_of, IsLeastCost, IsLexAtMost, SameValues, IsLeastPoint}
 use Rattle.row_program.specs.declared.program.Row.{Row}
 use Rattle.row_program.specs.declared.program.Program.{Program}
-use Rattle.exact_num.specs.Divisors.{gcd_of}
 use Rattle.exact_num.proofs.Divisors.{lowest as lowest_divides}
-use Rattle.exact_num.proofs.Ring.{leaf, plus, minus, times, opposite, same}
-use Rattle.pivot_form.proofs.Sums.{positive_product, positive_factor, zero_factor, zero_times, cancel}
-use Rattle.dual_theory.specs.Values.{value_of, IsBase, IsRun}
-use Rattle.dual_theory.specs.Runs.{num_in, den_in, value_num, value_den}
-use Rattle.dual_theory.specs.Ends.{lcm_of, lowest_by, lowest_num, lowest_den, common_den, whole_number, whole_numbers, point_whole, point_den}
+use Rattle.exact_num.proofs.Ring.{leaf, minus, times, same}
+use Rattle.pivot_form.proofs.Sums.{positive_product, cancel}
+use Rattle.dual_theory.specs.Values.{value_of, IsRun}
+use Rattle.dual_theory.specs.Runs.{num_in, value_num, value_den}
+use Rattle.dual_theory.specs.Ends.{lowest_by, lowest_num, lowest_den, common_den, whole_number, point_whole, point_den}
 use Rattle.dual_theory.proofs.Lex.{LexNonnegative-times, LexNonnegative-same_signs}
 use Rattle.dual_theory.proofs.Orders.{base_value, base_least}
-use Rattle.dual_theory.proofs.Found.{option_cases, row_of_some, row_of_is}
+use Rattle.dual_theory.proofs.Found.{option_cases, row_of_some}
 use Rattle.dual_theory.proofs.Chosen.{leaving_none, is_column}
 use Rattle.dual_theory.proofs.Rising.{value_den_positive, value_at_base, column_positive}
 use Rattle.dual_theory.proofs.Multiples.{exact_quotient, cancel_nat, num_back, den_back, den_above, in_lowest, lcm_left, lcm_right, lcm_above, lcm_least}
@@ -303,9 +300,9 @@ module _ (p : Program) (t : Table) (run : IsRun p t) (best : IsBest t) where
       compare c k m e r f h i g l =
           let C = leaf (pos c) in let K = leaf (pos k) in let M = leaf (pos m) in let E = leaf (pos e) in let R = leaf r in let F = leaf f in
           let gap : pos m *ℤ (pos k *ℤ f -ℤ r *ℤ pos e) ≡ f *ℤ (pos k *ℤ pos m -ℤ pos c *ℤ pos e)
-            = same (times M (minus (times K F) (times R E))) (minus (times F (times K M)) (times (times R M) E)) (omega arith)
-            ∙ ap (λ (z : ℤ). f *ℤ (pos k *ℤ pos m) -ℤ z *ℤ pos e) (sym g)
-            ∙ same (minus (times F (times K M)) (times (times C F) E)) (times F (minus (times K M) (times C E))) (omega arith) in
+          = same (times M (minus (times K F) (times R E))) (minus (times F (times K M)) (times (times R M) E)) (omega arith)
+          ∙ ap (λ (z : ℤ). f *ℤ (pos k *ℤ pos m) -ℤ z *ℤ pos e) (sym g)
+          ∙ same (minus (times F (times K M)) (times (times C F) E)) (times F (minus (times K M) (times C E))) (omega arith) in
           let low : pos 0 ≤ℤ (pos k *ℤ pos m -ℤ pos c *ℤ pos e) = omega (arith, ints, l) in
           let q = nonnegative_product f (pos k *ℤ pos m -ℤ pos c *ℤ pos e) (omega (arith, ints, i)) low in
           let z = nonnegative_factor (pos m) (pos k *ℤ f -ℤ r *ℤ pos e) (omega (arith, ints, h)) (omega (arith, ints, gap, q)) in

@@ -1,10 +1,9 @@
 -- Points, which are lists, as values of all variables.
-use Rattle.std.proofs.Common.{ℕ, zero, suc, ◌≡◌, ◌≢◌, ◌<◌, ◌≤◌, ◌+◌, ◌-◌, ◌*◌, arith, refl, ap, sym, ◌∙◌, inl, inr, ◌⊎◌, ⊎_elim, subst, List, [], ◌∷◌, length, get_or, drop, cond, eqb}
-use Rattle.std.specs.Prelude.{ℤ, pos, negsuc, ◌+ℤ◌, ◌*ℤ◌, ◌-ℤ◌, ◌<ℤ◌, ◌≤ℤ◌, slice_index_or}
+use Rattle.std.proofs.Common.{ℕ, zero, suc, ◌≡◌, ◌≢◌, ◌<◌, ◌≤◌, ◌+◌, ◌-◌, arith, refl, ap, sym, ◌∙◌, inl, inr, ◌⊎◌, ⊎_elim, subst, List, [], ◌∷◌, length, get_or, drop, cond, eqb}
+use Rattle.std.specs.Prelude.{ℤ, pos, ◌+ℤ◌, ◌*ℤ◌, ◌≤ℤ◌, slice_index_or}
 use Rattle.std.specs.List.{All}
-use Rattle.std.proofs.Math.Path.{fun_ext}
 use Rattle.std.proofs.lemmas.Int.{ints}
-use Rattle.std.proofs.lemmas.Bool.{cases_eq, cases_lt}
+use Rattle.std.proofs.lemmas.Bool.{cases_lt}
 use Rattle.std.proofs.lemmas.Bool.Decides.{nat_tests}
 use Rattle.std.proofs.lemmas.List.{length-drop, get_or-drop}
 use Rattle.mov_base.specs.Sums.{sum_z}
@@ -16,8 +15,8 @@ use Rattle.row_program.specs.declared.program.Term.{Term}
 use Rattle.row_program.specs.declared.program.Row.{Row}
 use Rattle.row_program.specs.declared.program.Program.{Program}
 use Rattle.exact_num.proofs.Ring.{leaf, plus, times, same}
-use Rattle.pivot_form.proofs.Sums.{zero_times, sum_from-same}
-use Rattle.dual_theory.specs.Values.{cost_at, row_at, value_of}
+use Rattle.pivot_form.proofs.Sums.{sum_from-same}
+use Rattle.dual_theory.specs.Values.{row_at, value_of}
 use Rattle.dual_theory.specs.Multipliers.{MeetsRest}
 use Rattle.dual_theory.proofs.Sums.{sum_from-zero, sum_from-one, sum_from-nonneg}
 use Rattle.dual_theory.proofs.Directions.{combined}

@@ -1,19 +1,19 @@
 -- What leaves and what enters.
-use Rattle.std.proofs.Common.{ℕ, zero, suc, ◌≡◌, ◌≢◌, ◌<◌, ◌≤◌, ◌+◌, arith, refl, ap, sym, ◌∙◌, inl, inr, ◌⊎◌, ⊎_elim, subst, List, [], ◌∷◌, length, get_or, Some, None, Bool, true, false, cond, eqb}
-use Rattle.std.specs.Prelude.{ℤ, pos, negsuc, ◌*ℤ◌, ◌-ℤ◌, ◌<ℤ◌, ◌≤ℤ◌, Option, find, filter, int_lt}
+use Rattle.std.proofs.Common.{ℕ, zero, suc, ◌≡◌, ◌<◌, arith, refl, ap, sym, ◌∙◌, inl, inr, ◌⊎◌, ⊎_elim, subst, List, [], ◌∷◌, length, get_or, Some, None, true, false, eqb}
+use Rattle.std.specs.Prelude.{ℤ, pos, ◌<ℤ◌, ◌≤ℤ◌, Option, find, int_lt}
 use lib.IntN.{neg_ℤ}
 use Rattle.std.specs.List.{All, range_with_len}
 use Rattle.std.proofs.lemmas.Bool.{cases_eq, cases_Bool, eq-eqb, ne_eqb, cond-true, cond-false}
 use Rattle.std.proofs.lemmas.Int.{ints}
 use Rattle.std.proofs.lemmas.List.Elements.{All-cons}
 use Rattle.std.proofs.lemmas.List.FromFn.{length-range_with_len, get_or-range_with_len}
-use Rattle.row_program.specs.Sums.{LexPositive, LexNonnegative}
+use Rattle.row_program.specs.Sums.{LexNonnegative}
 use Rattle.row_program.specs.Forms.{Table, entry, right_side, basic_of, tableau, next_form, IsNonbasic, IsSolved}
 use Rattle.row_program.specs.Method.{row_of_basic, is_negative, negative_in, row_of_found, leaving, value_count, column, column_in, difference, comes_before, candidates, first_least, first_least_of, entering, step, step_at, pivot_at}
 use Rattle.pivot_form.specs.Invariant.{IsShaped}
 use Rattle.dual_theory.specs.Runs.{GoesOn}
 use Rattle.dual_theory.proofs.Orders.{IsColumn}
-use Rattle.dual_theory.proofs.Found.{option_cases, none_some, some_same, find_some, find_none, row_of_some, row_of_none, row_of_is, row_of_free, AtMost, least_of, filter_all, filter_has}
+use Rattle.dual_theory.proofs.Found.{option_cases, none_some, some_same, find_some, find_none, row_of_some, row_of_is, row_of_free, AtMost, least_of, filter_all, filter_has}
 
 pub tells_below : (x y : ℤ) → int_lt x y ≡ true → x <ℤ y
 tells_below x y h = grind (arith, ints)

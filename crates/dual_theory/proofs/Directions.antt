@@ -1,16 +1,16 @@
 -- Directions of the nonbasic variables, and what a pivot makes of them.
-use Rattle.std.proofs.Common.{ℕ, zero, suc, ◌≡◌, ◌≢◌, ◌<◌, ◌≤◌, ◌+◌, arith, refl, ap, sym, ◌∙◌, inl, inr, ◌⊎◌, ⊎_elim, subst}
-use Rattle.std.specs.Prelude.{ℤ, pos, ◌+ℤ◌, ◌*ℤ◌, ◌-ℤ◌, ◌<ℤ◌, ◌≤ℤ◌}
+use Rattle.std.proofs.Common.{ℕ, zero, suc, ◌≡◌, ◌≢◌, ◌<◌, arith, refl, ap, sym, ◌∙◌, inl, inr, ◌⊎◌, ⊎_elim, subst}
+use Rattle.std.specs.Prelude.{ℤ, pos, ◌+ℤ◌, ◌*ℤ◌, ◌-ℤ◌, ◌<ℤ◌}
 use lib.IntN.{neg_ℤ}
 use Rattle.std.proofs.lemmas.Int.{ints}
-use Rattle.std.proofs.lemmas.Bool.{cases_eq, cases_lt}
-use Rattle.row_program.specs.Sums.{sum_from, LexPositive, LexNonnegative}
+use Rattle.std.proofs.lemmas.Bool.{cases_eq}
+use Rattle.row_program.specs.Sums.{sum_from}
 use Rattle.row_program.specs.Forms.{Tableau, IsNonbasic, IsSolved, Holds}
-use Rattle.exact_num.proofs.Ring.{mul_add, leaf, plus, minus, times, opposite, same}
-use Rattle.pivot_form.proofs.Sums.{positive_product, positive_factor, zero_factor, zero_times, cancel, sum_from-combine, sum_from-same, sum_from-scale}
+use Rattle.exact_num.proofs.Ring.{leaf, plus, minus, times, opposite, same}
+use Rattle.pivot_form.proofs.Sums.{positive_product, positive_factor, zero_factor, zero_times, sum_from-combine, sum_from-same}
 use Rattle.pivot_form.proofs.Pivots.{IsPivot, next_holds}
-use Rattle.dual_theory.specs.Values.{IsDirection, IsBase}
-use Rattle.dual_theory.proofs.Sums.{link_apart, column_sign, sum_from-neg}
+use Rattle.dual_theory.specs.Values.{IsDirection}
+use Rattle.dual_theory.proofs.Sums.{link_apart, column_sign}
 
 -- the row of a basic variable, or none
 pub find_row : (m : ℕ) (basic : ℕ → ℕ) (u : ℕ) → ((k : ℕ) × (k < m) × (basic k ≡ u)) ⊎ ((k : ℕ) → k < m → basic k ≢ u)
@@ -31,10 +31,10 @@ row_link t j y solved direction free lt i h =
   where
     zero_there : (u : ℕ) → u < t.width → u ≢ t.basic i → u ≢ j → (t.at i u ≡ pos 0) ⊎ (y u ≡ pos 0)
     zero_there u l p q =
-      ⊎_elim
-      (λ found. let here : t.at i (t.basic found.0) ≡ pos 0 = solved.clear found.0 i found.1 h (λ e. p (sym found.2 ∙ ap t.basic (sym e))) in inl (subst (λ (x : ℕ). t.at i x ≡ pos 0) found.2 here))
-      (λ apart. inr (direction.alone u l apart q))
-      (find_row t.height t.basic u)
+        ⊎_elim
+        (λ found. let here : t.at i (t.basic found.0) ≡ pos 0 = solved.clear found.0 i found.1 h (λ e. p (sym found.2 ∙ ap t.basic (sym e))) in inl (subst (λ (x : ℕ). t.at i x ≡ pos 0) found.2 here))
+        (λ apart. inr (direction.alone u l apart q))
+        (find_row t.height t.basic u)
 
 -- the direction of the entering variable c is one of the leaving variable, after the pivot at row r
 pub leaving_rises : (t : Tableau) (c r : ℕ) (z : ℕ → ℤ) → IsSolved t → IsDirection t c z → IsNonbasic t c → c < t.width → r < t.height → t.at r c <ℤ pos 0 → pos 0 <ℤ z (t.basic r)
@@ -67,17 +67,18 @@ neg_mul a b = same (times (opposite (leaf a)) (leaf b)) (opposite (times (leaf a
 
 -- a nonbasic variable of the next form is the leaving one, or was nonbasic before and isn't the entering one
 pub next_nonbasic : (t u : Tableau) (r c : ℕ) (lead : ℕ → ℤ) (last s : ℤ) (g : ℕ → ℤ) → IsPivot t u r c lead last s g → r < t.height → (j : ℕ) → IsNonbasic u j → (j ≢ c) × ((j ≡ t.basic r) ⊎ IsNonbasic t j)
-next_nonbasic t u r c lead last s g pivot within j free =
-    ((λ e. free r (subst (λ (m : ℕ). r < m) (sym pivot.height) within) (pivot.pivot_basic ∙ sym e)),
-     ⊎_elim (λ e. inl e) (λ apart. inr (λ i h f. ⊎_elim (λ (e : i ≡ r). apart (sym f ∙ ap t.basic e)) (λ away. free i (subst (λ (m : ℕ). i < m) (sym pivot.height) h) (pivot.basic i h away ∙ f)) (cases_eq i r))) (cases_eq j (t.basic r)))
+next_nonbasic t u r c lead last s g pivot within j free = (
+  (λ e. free r (subst (λ (m : ℕ). r < m) (sym pivot.height) within) (pivot.pivot_basic ∙ sym e)),
+  ⊎_elim (λ e. inl e) (λ apart. inr (λ i h f. ⊎_elim (λ (e : i ≡ r). apart (sym f ∙ ap t.basic e)) (λ away. free i (subst (λ (m : ℕ). i < m) (sym pivot.height) h) (pivot.basic i h away ∙ f)) (cases_eq i r))) (cases_eq j (t.basic r)),
+)
 
 -- the direction of the entering variable is then one of the leaving variable
 pub next_direction_leaving : (t u : Tableau) (r c : ℕ) (lead : ℕ → ℤ) (last s : ℤ) (g : ℕ → ℤ) (z : ℕ → ℤ) → IsPivot t u r c lead last s g → IsSolved t → IsDirection t c z → IsNonbasic t c → c < t.width → r < t.height → t.at r c <ℤ pos 0 → IsDirection u (t.basic r) z
 next_direction_leaving t u r c lead last s g z pivot solved direction free lt within negative = record {
-    holds = next_holds t u r c lead last s g z (pos 0) pivot within direction.holds;
-    rises = leaving_rises t c r z solved direction free lt within negative;
-    alone = λ k l f apart. let both = next_nonbasic t u r c lead last s g pivot within k f in ⊎_elim (λ e. absurd (apart e)) (λ was. direction.alone k (subst (λ (w : ℕ). k < w) pivot.width l) was both.0) both.1;
-  }
+  holds = next_holds t u r c lead last s g z (pos 0) pivot within direction.holds;
+  rises = leaving_rises t c r z solved direction free lt within negative;
+  alone = λ k l f apart. let both = next_nonbasic t u r c lead last s g pivot within k f in ⊎_elim (λ e. absurd (apart e)) (λ was. direction.alone k (subst (λ (w : ℕ). k < w) pivot.width l) was both.0) both.1;
+}
 
 combined_holds : (t : Tableau) (a b : ℤ) (y z : ℕ → ℤ) → Holds t y (pos 0) → Holds t z (pos 0) → Holds t (combined a y b z) (pos 0)
 combined_holds t a b y z h k i l =
@@ -94,22 +95,25 @@ combined_holds t a b y z h k i l =
 -- the combination is a direction of each other nonbasic variable
 pub next_direction_other : (t u : Tableau) (r c j : ℕ) (lead : ℕ → ℤ) (last s : ℤ) (g : ℕ → ℤ) (y z : ℕ → ℤ) → IsPivot t u r c lead last s g → IsSolved t → IsDirection t j y → IsDirection t c z → IsNonbasic t j → IsNonbasic t c → j ≢ c → j < t.width → c < t.width → r < t.height → t.at r c <ℤ pos 0 → IsDirection u j (combined (neg_ℤ (t.at r c) *ℤ z c) y (t.at r j *ℤ y j) z)
 next_direction_other t u r c j lead last s g y z pivot solved dj dc fj fc apart lj lc within negative = record {
-    holds = next_holds t u r c lead last s g (combined a y b z) (pos 0) pivot within (combined_holds t a b y z dj.holds dc.holds);
-    rises = rises_here;
-    alone = λ k l f away. let both = next_nonbasic t u r c lead last s g pivot within k f in ⊎_elim (λ e. subst (λ (x : ℕ). combined a y b z x ≡ pos 0) (sym e) (leaving_rests t j c r y z solved dj dc fj fc lj lc within)) (λ was. rests k (subst (λ (w : ℕ). k < w) pivot.width l) was away both.0) both.1;
-  }
+  holds = next_holds t u r c lead last s g (combined a y b z) (pos 0) pivot within (combined_holds t a b y z dj.holds dc.holds);
+  rises = rises_here;
+  alone = λ k l f away. let both = next_nonbasic t u r c lead last s g pivot within k f in ⊎_elim (λ e. subst (λ (x : ℕ). combined a y b z x ≡ pos 0) (sym e) (leaving_rests t j c r y z solved dj dc fj fc lj lc within)) (λ was. rests k (subst (λ (w : ℕ). k < w) pivot.width l) was away both.0) both.1;
+}
   where
     a : ℤ
     a = neg_ℤ (t.at r c) *ℤ z c
+
     b : ℤ
     b = t.at r j *ℤ y j
+
     rises_here : pos 0 <ℤ combined a y b z j
     rises_here =
-      let first : pos 0 <ℤ (a *ℤ y j) = positive_product a (y j) (positive_product (neg_ℤ (t.at r c)) (z c) (omega (arith, ints, negative)) dc.rises) dj.rises in
-      let second : b *ℤ z j ≡ pos 0 = zero_times b (z j) (dc.alone j lj fj apart) in
-      omega (arith, ints, first, second)
+        let first : pos 0 <ℤ (a *ℤ y j) = positive_product a (y j) (positive_product (neg_ℤ (t.at r c)) (z c) (omega (arith, ints, negative)) dc.rises) dj.rises in
+        let second : b *ℤ z j ≡ pos 0 = zero_times b (z j) (dc.alone j lj fj apart) in
+        omega (arith, ints, first, second)
+
     rests : (k : ℕ) → k < t.width → IsNonbasic t k → k ≢ j → k ≢ c → combined a y b z k ≡ pos 0
     rests k l was away other =
-      let first : a *ℤ y k ≡ pos 0 = zero_times a (y k) (dj.alone k l was away) in
-      let second : b *ℤ z k ≡ pos 0 = zero_times b (z k) (dc.alone k l was other) in
-      omega (arith, ints, first, second)
+        let first : a *ℤ y k ≡ pos 0 = zero_times a (y k) (dj.alone k l was away) in
+        let second : b *ℤ z k ≡ pos 0 = zero_times b (z k) (dc.alone k l was other) in
+        omega (arith, ints, first, second)

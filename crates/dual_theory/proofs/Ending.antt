@@ -1,12 +1,12 @@
 -- Every run ends, in Best, in Never, or at a form with a large entry.
-use Rattle.std.proofs.Common.{ℕ, zero, suc, ◌≡◌, ◌<◌, ◌≤◌, ◌+◌, arith, refl, ap, sym, ◌∙◌, inl, inr, ◌⊎◌, ⊎_elim, subst, Some, None}
+use Rattle.std.proofs.Common.{ℕ, zero, suc, ◌≡◌, ◌<◌, ◌≤◌, arith, ap, sym, ◌∙◌, inl, inr, ◌⊎◌, ⊎_elim, subst, None}
 use Rattle.std.proofs.lemmas.Bool.{cases_eq}
-use Rattle.row_program.specs.Forms.{Table, first_form, next_form, first_large_of}
-use Rattle.row_program.specs.Method.{leaving, entering, step, run_of, IsBest, IsNever, IsWide}
+use Rattle.row_program.specs.Forms.{Table, first_form, first_large_of}
+use Rattle.row_program.specs.Method.{leaving, entering, run_of, IsBest, IsWide}
 use Rattle.row_program.specs.declared.program.Program.{Program}
 use Rattle.pivot_form.proofs.FirstForm.{first_narrow}
 use Rattle.dual_theory.specs.Measures.{measure}
-use Rattle.dual_theory.specs.Ends.{large_in_point, IsWideSize, HasEnd}
+use Rattle.dual_theory.specs.Ends.{large_in_point, HasEnd}
 use Rattle.dual_theory.specs.Runs.{GoesOn}
 use Rattle.dual_theory.proofs.Found.{option_cases}
 use Rattle.dual_theory.proofs.Chosen.{step_is_next, step_stays_best}

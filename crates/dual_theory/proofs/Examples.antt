@@ -1,5 +1,5 @@
 -- The definitions on small programs: how the run ends, the point, the multipliers, the large number. Each value is found by computing.
-use Rattle.std.proofs.Common.{ℕ, ◌≡◌, ◌+◌, refl, List, [], ◌∷◌, Some, None}
+use Rattle.std.proofs.Common.{ℕ, ◌≡◌, refl, List, [], ◌∷◌, Some, None}
 use Rattle.std.specs.Prelude.{ℤ, pos, negsuc}
 use Rattle.exact_num.specs.Divisors.{gcd_of}
 use Rattle.row_program.specs.Bounds.{IsProgram}

@@ -1,6 +1,6 @@
 -- The measure falls with each step between forms without large entries.
-use Rattle.std.proofs.Common.{ℕ, zero, suc, ◌≡◌, ◌≢◌, ◌<◌, ◌≤◌, ◌+◌, ◌-◌, ◌*◌, ◌/◌, ◌^◌, arith, refl, ap, sym, ◌∙◌, inl, inr, ◌⊎◌, ⊎_elim, subst, List, [], ◌∷◌, length, get_or, Some, None}
-use Rattle.std.specs.Prelude.{ℤ, pos, negsuc, ◌+ℤ◌, ◌*ℤ◌, ◌-ℤ◌, ◌<ℤ◌, ◌≤ℤ◌, unsigned_abs}
+use Rattle.std.proofs.Common.{ℕ, zero, suc, ◌≡◌, ◌<◌, ◌≤◌, ◌-◌, ◌*◌, ◌/◌, ◌^◌, arith, ap, sym, ◌∙◌, inl, inr, ⊎_elim, subst, List, [], length, get_or, Some, None}
+use Rattle.std.specs.Prelude.{ℤ, pos, ◌+ℤ◌, ◌*ℤ◌, ◌-ℤ◌, ◌<ℤ◌, unsigned_abs}
 use Rattle.std.specs.List.{All}
 use Rattle.std.proofs.Math.Path.{fun_ext}
 use Rattle.std.proofs.lemmas.Int.{ints}
@@ -8,9 +8,9 @@ use Rattle.std.proofs.lemmas.Bool.{cases_lt}
 use Rattle.std.proofs.lemmas.Nat.{le-div}
 use Rattle.std.proofs.lemmas.List.{get_or_past}
 use Rattle.std.proofs.Math.Nat.{div-mul-le_self, mul-le-mul_right, le_of_mul-le-mul_left, pow-succ', pow-zero}
-use Rattle.row_program.specs.Sums.{LexPositive, LexNonnegative}
-use Rattle.row_program.specs.Forms.{Table, entry, right_side, row_of, next_form, first_large_of}
-use Rattle.row_program.specs.Method.{row_of_basic, value_count, leaving, entering, step}
+use Rattle.row_program.specs.Sums.{LexPositive}
+use Rattle.row_program.specs.Forms.{Table, entry, row_of, next_form, first_large_of}
+use Rattle.row_program.specs.Method.{row_of_basic, value_count, leaving, entering}
 use Rattle.row_program.specs.declared.program.Program.{Program}
 use Rattle.exact_num.proofs.Ring.{leaf, plus, minus, times, same}
 use Rattle.pivot_form.specs.Invariant.{IsShaped}
@@ -49,15 +49,15 @@ digit_same num num2 den den2 scale h k e = omega (arith, below num num2 den den2
   where
     below : (a b m n : ℕ) → 0 < m → 0 < n → a * n ≡ b * m → a * scale / m ≤ b * scale / n
     below a b m n h k e =
-      let q = a * scale / m in
-      let low : q * m ≤ a * scale = div-mul-le_self (a * scale) m in
-      let x : (q * m) * n ≤ (a * scale) * n = mul-le-mul_right n low in
-      let y : m * (q * n) ≤ m * (b * scale) = omega (arith, x, ap (λ (z : ℕ). z * scale) e) in
-      le-div q (b * scale) n k (le_of_mul-le-mul_left y h)
+        let q = a * scale / m in
+        let low : q * m ≤ a * scale = div-mul-le_self (a * scale) m in
+        let x : (q * m) * n ≤ (a * scale) * n = mul-le-mul_right n low in
+        let y : m * (q * n) ≤ m * (b * scale) = omega (arith, x, ap (λ (z : ℕ). z * scale) e) in
+        le-div q (b * scale) n k (le_of_mul-le-mul_left y h)
 
 -- fractions whose first difference rises: the numbers of their digits rise
 pub fractions_rise : (base scale n v : ℕ) (num den num2 den2 : ℕ → ℕ) → ((u : ℕ) → 0 < den u) → ((u : ℕ) → 0 < den2 u) → ((u : ℕ) → den u * den2 u ≤ scale) → ((u : ℕ) → num u * scale / den u < base)
-  → LexPositive n v (λ u. pos (num2 u * den u) -ℤ pos (num u * den2 u)) → number base n v (λ u. num u * scale / den u) < number base n v (λ u. num2 u * scale / den2 u)
+    → LexPositive n v (λ u. pos (num2 u * den u) -ℤ pos (num u * den2 u)) → number base n v (λ u. num u * scale / den u) < number base n v (λ u. num2 u * scale / den2 u)
 fractions_rise base scale zero v num den num2 den2 h k small low p = absurd p
 fractions_rise base scale (suc n) v num den num2 den2 h k small low (inl p) = number_rises base n v (λ u. num u * scale / den u) (λ u. num2 u * scale / den2 u) low (digit_rises (num v) (num2 v) (den v) (den2 v) scale (h v) (k v) (small v) (omega (arith, ints, p)))
 fractions_rise base scale (suc n) v num den num2 den2 h k small low (inr r) =

@@ -1,22 +1,21 @@
 -- The first form of a program keeps what every form of its run keeps.
-use Rattle.std.proofs.Common.{ℕ, zero, suc, ◌≡◌, ◌≢◌, ◌<◌, ◌≤◌, ◌+◌, ◌-◌, arith, refl, ap, sym, ◌∙◌, inl, inr, ◌⊎◌, ⊎_elim, subst, List, [], length, get_or, cond, eqb}
-use Rattle.std.specs.Prelude.{ℤ, pos, negsuc, ◌+ℤ◌, ◌*ℤ◌, ◌-ℤ◌, ◌<ℤ◌, ◌≤ℤ◌, slice_index_or}
+use Rattle.std.proofs.Common.{ℕ, zero, suc, ◌≡◌, ◌≢◌, ◌<◌, ◌≤◌, ◌+◌, ◌-◌, arith, refl, ap, sym, ◌∙◌, inl, inr, ⊎_elim, [], length, get_or, cond, eqb}
+use Rattle.std.specs.Prelude.{ℤ, pos, negsuc, ◌+ℤ◌, ◌*ℤ◌, ◌<ℤ◌, ◌≤ℤ◌, slice_index_or}
 use lib.IntN.{neg_ℤ}
 use Rattle.std.proofs.lemmas.Int.{ints}
 use Rattle.std.proofs.lemmas.Bool.{cases_eq, cases_lt}
 use Rattle.std.proofs.lemmas.Bool.Decides.{nat_tests}
-use Rattle.row_program.specs.Sums.{sum_from, LexPositive, LexNonnegative}
-use Rattle.row_program.specs.Forms.{Table, entry, right_side, basic_of, row_of, tableau, first_form, first_entry, first_basic, variable_count, coefficient, cost_entry, slack_entry, empty_row, Holds, IsNonbasic}
+use Rattle.row_program.specs.Sums.{sum_from, LexPositive}
+use Rattle.row_program.specs.Forms.{entry, tableau, first_form, first_entry, variable_count, coefficient, empty_row, Holds, IsNonbasic}
 use Rattle.row_program.specs.declared.program.Row.{Row}
 use Rattle.row_program.specs.declared.program.Program.{Program}
-use Rattle.exact_num.proofs.Ring.{leaf, times, opposite, same}
-use Rattle.pivot_form.proofs.Sums.{zero_times, sum_from-same}
+use Rattle.pivot_form.proofs.Sums.{sum_from-same}
 use Rattle.pivot_form.proofs.FirstForm.{first_at, basic_at, height_is, first_is_form, first_reduced, cost_own, cost_at, cost_past, slack_first, slack_variable, slack_constant, slack_own, slack_other}
 use Rattle.pivot_form.proofs.NextForm.{shape_of}
-use Rattle.dual_theory.specs.Values.{row_at, value_of, IsDirection, IsBase, HasDirection, HasBase, IsRun}
+use Rattle.dual_theory.specs.Values.{row_at, value_of, HasDirection, HasBase, IsRun}
 use Rattle.dual_theory.proofs.Sums.{sum_from-zero, sum_from-one, sum_from-split, sum_from-neg, sum_from-nonneg}
 use Rattle.dual_theory.proofs.Directions.{neg_mul}
-use Rattle.dual_theory.proofs.Values.{value_cost, value_own, value_slack, by_kind, value_zero}
+use Rattle.dual_theory.proofs.Values.{value_cost, value_own, value_slack, by_kind}
 
 pub sum_shift : (n v : ℕ) (f : ℕ → ℤ) → sum_from n (suc v) f ≡ sum_from n v (λ u. f (suc u))
 sum_shift zero v f = refl

@@ -1,18 +1,17 @@
 -- What searches of lists find: the row of a basic variable, the first that passes a test, the first least.
-use Rattle.std.proofs.Common.{ℕ, zero, suc, ◌≡◌, ◌≢◌, ◌<◌, ◌≤◌, ◌+◌, arith, refl, ap, sym, ◌∙◌, inl, inr, ◌⊎◌, ⊎_elim, subst, List, [], ◌∷◌, length, get_or, Some, None, Bool, true, false, cond, ltb, eqb}
-use Rattle.std.specs.Prelude.{ℤ, pos, ◌*ℤ◌, ◌-ℤ◌, ◌<ℤ◌, ◌≤ℤ◌, Option, find, filter, int_lt}
+use Rattle.std.proofs.Common.{ℕ, zero, suc, ◌≡◌, ◌<◌, ◌≤◌, arith, refl, ap, sym, ◌∙◌, inl, inr, ◌⊎◌, ⊎_elim, subst, List, [], ◌∷◌, length, get_or, Some, None, Bool, true, false, cond, ltb, eqb}
+use Rattle.std.specs.Prelude.{ℤ, pos, ◌<ℤ◌, Option, find, filter}
 use lib.IntN.{neg_ℤ}
-use Rattle.std.specs.List.{All, position, position_or_len, range_with_len}
-use Rattle.std.proofs.lemmas.Bool.{cases_lt, cases_eq, cases_Bool, lt-ltb, eq-eqb, eqb-true, ne_eqb, cond-true, cond-false}
+use Rattle.std.specs.List.{All, position, position_or_len}
+use Rattle.std.proofs.lemmas.Bool.{cases_lt, cases_eq, cases_Bool, lt-ltb, eq-eqb, eqb-true, cond-true, cond-false}
 use Rattle.std.proofs.lemmas.Int.{ints}
 use Rattle.std.proofs.lemmas.List.Sums.{fails_before_first}
 use Rattle.std.proofs.lemmas.List.Elements.{All-cons}
 use Rattle.std.proofs.lemmas.List.Quantifiers.{position-Some}
-use Rattle.row_program.specs.Sums.{LexPositive, LexNonnegative}
-use Rattle.row_program.specs.Forms.{Table, Tableau, entry, basic_of, tableau, IsNonbasic, IsSolved}
-use Rattle.row_program.specs.Method.{row_of_basic, lex_negative, difference, first_least, first_least_of}
+use Rattle.row_program.specs.Sums.{LexNonnegative}
+use Rattle.row_program.specs.Forms.{Table, Tableau, basic_of, tableau, IsNonbasic, IsSolved}
+use Rattle.row_program.specs.Method.{row_of_basic, lex_negative, difference, first_least}
 use Rattle.pivot_form.specs.Invariant.{IsShaped}
-use Rattle.exact_num.proofs.Ring.{leaf, minus, times, opposite, same}
 use Rattle.dual_theory.proofs.Lex.{LexNonnegative-zeros, weaken}
 use Rattle.dual_theory.proofs.Tests.{lex_test_false, lex_test_true, difference_trans}
 

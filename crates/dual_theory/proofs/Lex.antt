@@ -1,7 +1,6 @@
 -- The lexicographic order.
-use Rattle.std.proofs.Common.{ℕ, zero, suc, ◌≡◌, ◌<◌, ◌≤◌, ◌+◌, arith, refl, ap, sym, ◌∙◌, inl, inr, ◌⊎◌, subst}
-use Rattle.std.specs.Prelude.{ℤ, pos, negsuc, ◌+ℤ◌, ◌*ℤ◌, ◌-ℤ◌, ◌<ℤ◌, ◌≤ℤ◌}
-use Rattle.std.proofs.Math.Path.{fun_ext}
+use Rattle.std.proofs.Common.{ℕ, zero, suc, ◌≡◌, ◌<◌, ◌≤◌, ◌+◌, arith, refl, sym, ◌∙◌, inl, inr}
+use Rattle.std.specs.Prelude.{ℤ, pos, negsuc, ◌+ℤ◌, ◌*ℤ◌, ◌<ℤ◌, ◌≤ℤ◌}
 use Rattle.std.proofs.lemmas.Int.{ints}
 use Rattle.row_program.specs.Sums.{sum_from, LexPositive, LexNonnegative}
 use Rattle.pivot_form.proofs.Sums.{positive_product, positive_factor, zero_factor, zero_times}
@@ -65,4 +64,3 @@ LexNonnegative-zero (suc n) v = inr (refl, LexNonnegative-zero n (suc v))
 pub LexNonnegative-sum : (m k n v : ℕ) (f : ℕ → ℕ → ℤ) → ((j : ℕ) → k ≤ j → j < k + m → LexNonnegative n v (f j)) → LexNonnegative n v (λ u. sum_from m k (λ j. f j u))
 LexNonnegative-sum zero k n v f h = LexNonnegative-zero n v
 LexNonnegative-sum (suc m) k n v f h = LexNonnegative-add n v (f k) (λ u. sum_from m (suc k) (λ j. f j u)) (h k (omega arith) (omega arith)) (LexNonnegative-sum m (suc k) n v f (λ j i l. h j (omega (arith, i)) (omega (arith, l))))
-

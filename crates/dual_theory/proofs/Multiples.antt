@@ -1,14 +1,13 @@
 -- Fractions in lowest terms, and least common multiples.
-use Rattle.std.proofs.Common.{ℕ, zero, suc, ◌≡◌, ◌<◌, ◌≤◌, ◌+◌, ◌*◌, ◌/◌, ◌%◌, arith, refl, ap, sym, ◌∙◌, ⊎_elim, subst}
-use Rattle.std.specs.Prelude.{ℤ, pos, ◌*ℤ◌, unsigned_abs}
+use Rattle.std.proofs.Common.{ℕ, zero, suc, ◌≡◌, ◌<◌, ◌≤◌, ◌+◌, ◌*◌, ◌/◌, ◌%◌, arith, ap, sym, ◌∙◌, ⊎_elim, subst}
+use Rattle.std.specs.Prelude.{pos}
 use Prim.Native.Nat.{◌∣◌}
 use Rattle.std.specs.Int.{IsGcd}
-use Rattle.std.proofs.lemmas.Int.{ints}
 use Rattle.std.proofs.lemmas.Bool.{cases_eq}
-use Rattle.std.proofs.lemmas.Nat.Gcd.{dvd_refl, dvd_trans, mod-eq-zero_of_dvd, le_of_dvd}
-use Rattle.std.proofs.Math.Nat.{dvd-mul_left, dvd-mul_right, eq-zero_of_zero-dvd, mul-dvd-mul_right, mul-dvd-mul_left, dvd_of_mul-dvd-mul_right, le_of_mul-le-mul_left}
+use Rattle.std.proofs.lemmas.Nat.Gcd.{mod-eq-zero_of_dvd}
+use Rattle.std.proofs.Math.Nat.{dvd-mul_left, dvd-mul_right, eq-zero_of_zero-dvd, mul-dvd-mul_left, dvd_of_mul-dvd-mul_right, le_of_mul-le-mul_left}
 use Rattle.exact_num.specs.Divisors.{gcd_of}
-use Rattle.exact_num.proofs.Divisors.{IsGcd-gcd_of, gcd_of_is, lowest_terms, gauss, lowest as lowest_divides}
+use Rattle.exact_num.proofs.Divisors.{IsGcd-gcd_of, lowest_terms, gauss}
 use Rattle.dual_theory.specs.Ends.{lcm_of}
 
 pub exact_quotient : (a g : ℕ) → g ∣ a → a / g * g ≡ a

@@ -1,17 +1,16 @@
 -- The values rise strictly along a run.
-use Rattle.std.proofs.Common.{ℕ, zero, suc, ◌≡◌, ◌≢◌, ◌<◌, ◌≤◌, ◌+◌, ◌-◌, arith, refl, ap, sym, ◌∙◌, inl, inr, ◌⊎◌, ⊎_elim, subst, List, length, get_or, Some, None}
-use Rattle.std.specs.Prelude.{ℤ, pos, negsuc, ◌+ℤ◌, ◌*ℤ◌, ◌-ℤ◌, ◌<ℤ◌, ◌≤ℤ◌}
-use lib.IntN.{neg_ℤ}
+use Rattle.std.proofs.Common.{ℕ, zero, suc, ◌≡◌, ◌<◌, ◌+◌, arith, ap, sym, ◌∙◌, inl, inr, ⊎_elim, subst, length, Some}
+use Rattle.std.specs.Prelude.{ℤ, pos, ◌+ℤ◌, ◌*ℤ◌, ◌-ℤ◌, ◌<ℤ◌}
 use Rattle.std.proofs.lemmas.Int.{ints}
 use Rattle.std.proofs.lemmas.Bool.{cases_eq}
-use Rattle.row_program.specs.Sums.{LexPositive, LexNonnegative}
-use Rattle.row_program.specs.Forms.{Table, entry, right_side, basic_of, tableau, next_form, IsNonbasic}
+use Rattle.row_program.specs.Sums.{LexPositive}
+use Rattle.row_program.specs.Forms.{Table, entry, right_side, tableau, next_form, IsNonbasic}
 use Rattle.row_program.specs.Method.{row_of_basic, value_count, column, leaving, entering, step, run_of}
 use Rattle.row_program.specs.declared.program.Program.{Program}
 use Rattle.exact_num.proofs.Ring.{leaf, plus, minus, times, same}
 use Rattle.pivot_form.specs.Invariant.{IsShaped}
 use Rattle.pivot_form.proofs.Sums.{positive_product, positive_factor, zero_factor, zero_times}
-use Rattle.dual_theory.specs.Values.{value_of, IsDirection, IsBase, HasDirection, IsRun}
+use Rattle.dual_theory.specs.Values.{value_of, IsBase, HasDirection, IsRun}
 use Rattle.dual_theory.specs.Runs.{num_in, den_in, value_num, value_den, gain, IsAbove, GoesOn, Rises, NoneTwice, ColumnsPositive}
 use Rattle.dual_theory.proofs.Directions.{find_row}
 use Rattle.dual_theory.proofs.Orders.{base_value, scale, scale_positive, scale_column}
@@ -88,10 +87,13 @@ pub next_above : (p : Program) (t : Table) (r c : ℕ) → IsRun p t → leaving
 next_above p t r c run leaves enters =
     subst (λ (n : ℕ). LexPositive n 0 (gain t u)) (sym (value_count_is p t run))
     (LexPositive-signs (λ v. value_den u v *ℤ value_den t v) (λ v. d *ℤ d2) (1 + length p.costs) 0 (λ v. d *ℤ value_of p (next_x p t r c run leaves enters) d2 v -ℤ d2 *ℤ value_of p run.base.x d v) (gain t u)
-    (λ v l. (positive_product (value_den u v) (value_den t v) (value_den_positive u v kept.shape) (value_den_positive t v run.shape), positive_product d d2 run.base.base.positive (base_next p t r c run leaves enters).positive,
+    (λ v l. (
+      positive_product (value_den u v) (value_den t v) (value_den_positive u v kept.shape) (value_den_positive t v run.shape),
+      positive_product d d2 run.base.base.positive (base_next p t r c run leaves enters).positive,
       rise_identity (value_num t v) (value_den t v) (value_num u v) (value_den u v) d d2 (value_of p run.base.x d v) (value_of p (next_x p t r c run leaves enters) d2 v)
-      (value_at_base t (value_of p run.base.x d) d v run.shape run.base.base (omega (arith, l, run.variables)))
-      (value_at_base u (value_of p (next_x p t r c run leaves enters) d2) d2 v kept.shape (base_next p t r c run leaves enters) (omega (arith, l, run.variables)))))
+          (value_at_base t (value_of p run.base.x d) d v run.shape run.base.base (omega (arith, l, run.variables)))
+          (value_at_base u (value_of p (next_x p t r c run leaves enters) d2) d2 v kept.shape (base_next p t r c run leaves enters) (omega (arith, l, run.variables))),
+    ))
     (base_above p t r c run leaves enters))
   where
     u : Table

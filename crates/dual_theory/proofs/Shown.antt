@@ -1,28 +1,28 @@
 -- What the multipliers show, and that no point is left where nothing enters.
 use Rattle.std.proofs.Common.{ℕ, zero, suc, ◌≡◌, ◌≢◌, ◌<◌, ◌≤◌, ◌+◌, ◌-◌, ◌*◌, ◌/◌, arith, refl, ap, sym, ◌∙◌, inl, inr, ◌⊎◌, ⊎_elim, subst, List, [], ◌∷◌, length, get_or, map, Some, None}
-use Rattle.std.specs.Prelude.{ℤ, pos, negsuc, ◌+ℤ◌, ◌*ℤ◌, ◌-ℤ◌, ◌<ℤ◌, ◌≤ℤ◌, unsigned_abs, slice_index_or}
+use Rattle.std.specs.Prelude.{ℤ, pos, negsuc, ◌*ℤ◌, ◌<ℤ◌, ◌≤ℤ◌, unsigned_abs}
 use lib.IntN.{neg_ℤ}
 use Prim.Native.Nat.{◌∣◌}
-use Rattle.std.specs.List.{All, fold, range_with_len}
+use Rattle.std.specs.List.{All, fold}
 use Rattle.std.proofs.lemmas.Int.{ints}
-use Rattle.std.proofs.lemmas.Bool.{cases_eq, cases_lt}
+use Rattle.std.proofs.lemmas.Bool.{cases_eq}
 use Rattle.std.proofs.lemmas.List.{length-map, get_or_default}
 use Rattle.std.proofs.lemmas.List.FromFn.{length-map-range_with_len, get_or-map-range_with_len}
 use Rattle.std.proofs.lemmas.Nat.Gcd.{dvd-zero}
 use Rattle.std.proofs.Math.Nat.{mul-dvd-mul_right, zero-div, eq-zero_of_zero-dvd}
 use Rattle.std.proofs.Math.ListN.{get_or-map}
 use Rattle.row_program.specs.Sums.{sum_from, LexPositive}
-use Rattle.row_program.specs.Forms.{Table, Tableau, entry, right_side, basic_of, tableau, empty_row, variable_count, Holds, IsNonbasic}
+use Rattle.row_program.specs.Forms.{Table, Tableau, entry, right_side, basic_of, tableau, empty_row, Holds, IsNonbasic}
 use Rattle.row_program.specs.Method.{row_of_basic, column, column_in, leaving, entering, IsBest}
 use Rattle.row_program.specs.Points.{row_value, IsPoint, cost_of}
 use Rattle.row_program.specs.declared.program.Row.{Row}
 use Rattle.row_program.specs.declared.program.Program.{Program}
-use Rattle.exact_num.specs.Divisors.{gcd_of, gcd_with, row_gcd}
+use Rattle.exact_num.specs.Divisors.{gcd_of, gcd_with}
 use Rattle.exact_num.proofs.Divisors.{fold_divides, fold_greatest, one_left}
-use Rattle.exact_num.proofs.Ring.{leaf, minus, times, opposite, same}
-use Rattle.pivot_form.proofs.Sums.{positive_product, zero_times, sum_from-same, sum_from-scale}
+use Rattle.exact_num.proofs.Ring.{leaf, times, opposite, same}
+use Rattle.pivot_form.proofs.Sums.{positive_product, sum_from-same, sum_from-scale}
 use Rattle.dual_theory.specs.Values.{value_of, IsRun}
-use Rattle.dual_theory.specs.Multipliers.{MeetsRest, weighted, BoundsCost, RulesOut, divisor_of, lowest, IsLowest, slack_sizes, multipliers_of}
+use Rattle.dual_theory.specs.Multipliers.{weighted, BoundsCost, RulesOut, divisor_of, lowest, IsLowest, slack_sizes, multipliers_of}
 use Rattle.dual_theory.proofs.Sums.{sum_from-split, sum_from-nonneg, sum_from-neg, kept_below}
 use Rattle.dual_theory.proofs.Directions.{find_row}
 use Rattle.dual_theory.proofs.Found.{row_of_is}
@@ -36,7 +36,7 @@ use Rattle.dual_theory.proofs.Unique.{carried}
 
 -- a row with a negative right side and no negative product among those that aren't kept
 pub never_kept : (t : Tableau) (r low kept more : ℕ) (y : ℕ → ℤ) (d : ℤ) → t.width ≡ low + kept + more → Holds t y d → r < t.height → (t.right r *ℤ d) <ℤ pos 0
-  → ((u : ℕ) → u < low → pos 0 ≤ℤ (t.at r u *ℤ y u)) → ((u : ℕ) → low + kept ≤ u → u < low + kept + more → pos 0 ≤ℤ (t.at r u *ℤ y u)) → sum_from kept low (λ u. t.at r u *ℤ y u) <ℤ pos 0
+    → ((u : ℕ) → u < low → pos 0 ≤ℤ (t.at r u *ℤ y u)) → ((u : ℕ) → low + kept ≤ u → u < low + kept + more → pos 0 ≤ℤ (t.at r u *ℤ y u)) → sum_from kept low (λ u. t.at r u *ℤ y u) <ℤ pos 0
 never_kept t r low kept more y d width holds within negative h k =
     let e = holds r within in
     let x = ap (λ (n : ℕ). sum_from n 0 (λ j. t.at r j *ℤ y j)) width in
@@ -45,8 +45,8 @@ never_kept t r low kept more y d width holds within negative h k =
 
 -- the row of the cost: no product but that of the cost is positive, away from the kept ones
 pub best_kept : (t : Tableau) (low kept more : ℕ) (y : ℕ → ℤ) (d : ℤ) → t.width ≡ suc low + kept + more → Holds t y d → 0 < t.height
-  → ((u : ℕ) → 0 < u → u < suc low → (t.at 0 u *ℤ y u) ≤ℤ pos 0) → ((u : ℕ) → suc low + kept ≤ u → u < suc low + kept + more → (t.at 0 u *ℤ y u) ≤ℤ pos 0)
-  → sum_from kept (suc low) (λ u. t.at 0 u *ℤ y u) ≤ℤ pos 0 → (t.right 0 *ℤ d) ≤ℤ (t.at 0 0 *ℤ y 0)
+    → ((u : ℕ) → 0 < u → u < suc low → (t.at 0 u *ℤ y u) ≤ℤ pos 0) → ((u : ℕ) → suc low + kept ≤ u → u < suc low + kept + more → (t.at 0 u *ℤ y u) ≤ℤ pos 0)
+    → sum_from kept (suc low) (λ u. t.at 0 u *ℤ y u) ≤ℤ pos 0 → (t.right 0 *ℤ d) ≤ℤ (t.at 0 0 *ℤ y 0)
 best_kept t low kept more y d width holds within h k s =
     let e = holds 0 within in
     let x = ap (λ (n : ℕ). sum_from n 0 (λ j. t.at 0 j *ℤ y j)) (width ∙ count) in
@@ -59,12 +59,13 @@ best_kept t low kept more y d width holds within h k s =
   where
     count : suc low + kept + more ≡ suc ((low + kept) + more)
     count = omega arith
+
     one : 1 + low ≡ suc low
     one = omega arith
+
     nonpositive : (n v : ℕ) (f : ℕ → ℤ) → ((u : ℕ) → v ≤ u → u < v + n → f u ≤ℤ pos 0) → sum_from n v f ≤ℤ pos 0
     nonpositive zero v f h = omega (arith, ints)
     nonpositive (suc n) v f h = let x = h v (omega arith) (omega arith) in let y = nonpositive n (suc v) f (λ u a b. h u (omega (arith, a)) (omega (arith, b))) in omega (arith, ints, x, y)
-
 
 -- ---- the greatest common divisor of a list
 fold_is : (g : ℕ) (xs : List ℕ) → fold gcd_of g xs ≡ fold gcd_with g (map pos xs)
@@ -242,9 +243,9 @@ cost_row_below p t j run h apart =
 pub best_shown : (p : Program) (t : Table) → IsRun p t → IsBest t → BoundsCost p (multipliers_of p t 0) (right_side t 0) (entry t 0 0)
 best_shown p t run best whole den meets above_sum =
     let shown = best_kept (tableau t) (length p.costs) p.kept more y (pos den) width (run.sound (as_values whole) (pos den)) top
-      (λ u a h. below u (omega (arith, h, run.variables)) (omega (arith, a)) (inl (omega (arith, h))))
-      (λ u h l. below u (omega (arith, l, few, run.variables)) (omega (arith, h)) (inr (omega (arith, h))))
-      kept_low in
+    (λ u a h. below u (omega (arith, h, run.variables)) (omega (arith, a)) (inl (omega (arith, h))))
+    (λ u h l. below u (omega (arith, l, few, run.variables)) (omega (arith, h)) (inr (omega (arith, h))))
+    kept_low in
     let cost = value_cost_is p whole den meets.all_variables in
     let turn : entry t 0 0 *ℤ y 0 ≡ pos (cost_of p.costs whole) *ℤ entry t 0 0 = ap (λ (z : ℤ). entry t 0 0 *ℤ z) cost ∙ same (times (leaf (entry t 0 0)) (leaf (pos (cost_of p.costs whole)))) (times (leaf (pos (cost_of p.costs whole))) (leaf (entry t 0 0))) (omega arith) in
     omega (arith, ints, shown, turn)

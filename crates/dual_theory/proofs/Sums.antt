@@ -1,6 +1,6 @@
 -- Sums of the values of a function.
-use Rattle.std.proofs.Common.{ℕ, zero, suc, ◌≡◌, ◌≢◌, ◌<◌, ◌≤◌, ◌+◌, arith, refl, ap, sym, ◌∙◌, inl, inr, ◌⊎◌, ⊎_elim}
-use Rattle.std.specs.Prelude.{ℤ, pos, ◌+ℤ◌, ◌*ℤ◌, ◌-ℤ◌, ◌<ℤ◌, ◌≤ℤ◌}
+use Rattle.std.proofs.Common.{ℕ, zero, suc, ◌≡◌, ◌≢◌, ◌<◌, ◌≤◌, ◌+◌, arith, refl, ap, sym, ◌∙◌, ◌⊎◌, ⊎_elim}
+use Rattle.std.specs.Prelude.{ℤ, pos, ◌+ℤ◌, ◌*ℤ◌, ◌-ℤ◌, ◌≤ℤ◌}
 use lib.IntN.{neg_ℤ}
 use Rattle.std.proofs.lemmas.Int.{ints}
 use Rattle.std.proofs.lemmas.Bool.{cases_eq, cases_lt}
@@ -18,9 +18,9 @@ sum_from-one zero v f k i j h = absurd (omega (arith, i, j))
 sum_from-one (suc n) v f k i j h =
     ⊎_elim
     (λ e. let rest : sum_from n (suc v) f ≡ pos 0 = sum_from-zero n (suc v) f (λ u a b. h u (omega (arith, a)) (omega (arith, b)) (omega (arith, e, a))) in
-      let here : f k ≡ f v = ap f e in omega (arith, ints, rest, here))
+    let here : f k ≡ f v = ap f e in omega (arith, ints, rest, here))
     (λ apart. let rest = sum_from-one n (suc v) f k (omega (arith, i, apart)) (omega (arith, j)) (λ u a b. h u (omega (arith, a)) (omega (arith, b))) in
-      let first : f v ≡ pos 0 = h v (omega arith) (omega arith) (omega (arith, apart)) in omega (arith, ints, rest, first))
+    let first : f v ≡ pos 0 = h v (omega arith) (omega arith) (omega (arith, apart)) in omega (arith, ints, rest, first))
     (cases_eq k v)
 
 -- two terms alone
@@ -29,9 +29,9 @@ sum_from-two zero v f k l i j m h = absurd (omega (arith, i, j, m))
 sum_from-two (suc n) v f k l i j m h =
     ⊎_elim
     (λ e. let rest = sum_from-one n (suc v) f l (omega (arith, e, j)) (omega (arith, m)) (λ u a b s. h u (omega (arith, a)) (omega (arith, b)) (omega (arith, e, a)) s) in
-      let here : f k ≡ f v = ap f e in omega (arith, ints, rest, here))
+    let here : f k ≡ f v = ap f e in omega (arith, ints, rest, here))
     (λ apart. let rest = sum_from-two n (suc v) f k l (omega (arith, i, apart)) j (omega (arith, m)) (λ u a b. h u (omega (arith, a)) (omega (arith, b))) in
-      let first : f v ≡ pos 0 = h v (omega arith) (omega arith) (omega (arith, apart)) (omega (arith, i, j)) in omega (arith, ints, rest, first))
+    let first : f v ≡ pos 0 = h v (omega arith) (omega arith) (omega (arith, apart)) (omega (arith, i, j)) in omega (arith, ints, rest, first))
     (cases_eq k v)
 
 -- a row of a form at a solution whose entries away from b and k add nothing
@@ -50,7 +50,7 @@ pub column_sign : (e y z vj vk rj rk lj lk : ℤ) → e *ℤ y ≡ neg_ℤ (vj *
 column_sign e y z vj vk rj rk lj lk p q =
     let E = leaf e in let Y = leaf y in let Z = leaf z in let K = leaf rk in let J = leaf rj in let A = leaf lj in let B = leaf lk in let V = leaf vj in let W = leaf vk in
     let spread : e *ℤ ((neg_ℤ rk *ℤ lk) *ℤ y +ℤ (rj *ℤ lj) *ℤ z) ≡ (neg_ℤ rk *ℤ lk) *ℤ (e *ℤ y) +ℤ (rj *ℤ lj) *ℤ (e *ℤ z)
-      = same (times E (plus (times (times (opposite K) B) Y) (times (times J A) Z))) (plus (times (times (opposite K) B) (times E Y)) (times (times J A) (times E Z))) (omega arith) in
+    = same (times E (plus (times (times (opposite K) B) Y) (times (times J A) Z))) (plus (times (times (opposite K) B) (times E Y)) (times (times J A) (times E Z))) (omega arith) in
     let put : (neg_ℤ rk *ℤ lk) *ℤ (e *ℤ y) +ℤ (rj *ℤ lj) *ℤ (e *ℤ z) ≡ (neg_ℤ rk *ℤ lk) *ℤ neg_ℤ (vj *ℤ lj) +ℤ (rj *ℤ lj) *ℤ neg_ℤ (vk *ℤ lk) = cc in
     spread ∙ put ∙ same (plus (times (times (opposite K) B) (opposite (times V A))) (times (times J A) (opposite (times W B)))) (times (times A B) (minus (times V K) (times W J))) (omega arith)
 
@@ -89,11 +89,10 @@ sum_from-but_one zero v f h k i j e z = absurd (omega (arith, i, j))
 sum_from-but_one (suc n) v f h k i j e z =
     ⊎_elim
     (λ (here : k ≡ v).
-      let rest = sum_from-same n (suc v) f h (λ u a b. e u (omega (arith, a)) (omega (arith, b)) (omega (arith, here, a))) in
-      let first : f k ≡ f v = ap f here in
-      let none : h v ≡ pos 0 = ap h (sym here) ∙ z in omega (arith, ints, rest, first, none))
+    let rest = sum_from-same n (suc v) f h (λ u a b. e u (omega (arith, a)) (omega (arith, b)) (omega (arith, here, a))) in
+    let first : f k ≡ f v = ap f here in
+    let none : h v ≡ pos 0 = ap h (sym here) ∙ z in omega (arith, ints, rest, first, none))
     (λ apart.
-      let rest = sum_from-but_one n (suc v) f h k (omega (arith, i, apart)) (omega (arith, j)) (λ u a b. e u (omega (arith, a)) (omega (arith, b))) z in
-      let first : f v ≡ h v = e v (omega arith) (omega arith) (omega (arith, apart)) in omega (arith, ints, rest, first))
+    let rest = sum_from-but_one n (suc v) f h k (omega (arith, i, apart)) (omega (arith, j)) (λ u a b. e u (omega (arith, a)) (omega (arith, b))) z in
+    let first : f v ≡ h v = e v (omega arith) (omega arith) (omega (arith, apart)) in omega (arith, ints, rest, first))
     (cases_eq k v)
-

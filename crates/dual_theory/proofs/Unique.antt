@@ -1,12 +1,12 @@
 -- There is one least point at most.
-use Rattle.std.proofs.Common.{ℕ, zero, suc, ◌≡◌, ◌<◌, ◌≤◌, ◌+◌, ◌*◌, arith, refl, ap, sym, ◌∙◌, inl, inr, ◌⊎◌, List, [], ◌∷◌, length, get_or, subst}
+use Rattle.std.proofs.Common.{ℕ, zero, suc, ◌≡◌, ◌≤◌, ◌*◌, arith, ap, sym, ◌∙◌, inl, inr, List, [], ◌∷◌, length, get_or}
 use Rattle.std.specs.Prelude.{ℤ, pos, ◌*ℤ◌, ◌-ℤ◌, ◌<ℤ◌, ◌≤ℤ◌}
 use Rattle.std.proofs.lemmas.List.{ext_get_or}
 use Rattle.std.proofs.lemmas.Int.{ints}
-use Rattle.row_program.specs.Points.{IsPoint, cost_of, IsLexAtMost, SameValues, IsLeastPoint, IsLeastCost}
+use Rattle.row_program.specs.Points.{cost_of, IsLexAtMost, IsLeastPoint, IsLeastCost}
 use Rattle.row_program.specs.declared.program.Program.{Program}
 use Rattle.exact_num.proofs.Ring.{leaf, minus, times, same}
-use Rattle.pivot_form.proofs.Sums.{positive_product, cancel}
+use Rattle.pivot_form.proofs.Sums.{cancel}
 use Rattle.dual_theory.proofs.Multiples.{cancel_nat}
 use Rattle.dual_theory.proofs.Best.{nonnegative_factor, nonnegative_product}
 
@@ -39,9 +39,9 @@ pub carried : (num den a b c m : ℤ) → pos 0 <ℤ den → pos 0 <ℤ b → a 
 carried num den a b c m h i e l =
     let N = leaf num in let D = leaf den in let A = leaf a in let B = leaf b in let C = leaf c in let M = leaf m in
     let gap : den *ℤ (c *ℤ b -ℤ a *ℤ m) ≡ b *ℤ (c *ℤ den -ℤ num *ℤ m)
-      = same (times D (minus (times C B) (times A M))) (minus (times B (times C D)) (times (times A D) M)) (omega arith)
-      ∙ ap (λ (z : ℤ). b *ℤ (c *ℤ den) -ℤ z *ℤ m) e
-      ∙ same (minus (times B (times C D)) (times (times N B) M)) (times B (minus (times C D) (times N M))) (omega arith) in
+    = same (times D (minus (times C B) (times A M))) (minus (times B (times C D)) (times (times A D) M)) (omega arith)
+    ∙ ap (λ (z : ℤ). b *ℤ (c *ℤ den) -ℤ z *ℤ m) e
+    ∙ same (minus (times B (times C D)) (times (times N B) M)) (times B (minus (times C D) (times N M))) (omega arith) in
     let q = nonnegative_product b (c *ℤ den -ℤ num *ℤ m) (omega (arith, ints, i)) (omega (arith, ints, l)) in
     let z = nonnegative_factor den (c *ℤ b -ℤ a *ℤ m) h (omega (arith, ints, gap, q)) in
     omega (arith, ints, z)

@@ -1,16 +1,16 @@
 -- The values of all variables of a program are linear in those of its own.
-use Rattle.std.proofs.Common.{ℕ, zero, suc, ◌≡◌, ◌≢◌, ◌<◌, ◌≤◌, ◌+◌, ◌-◌, arith, refl, ap, sym, ◌∙◌, inl, inr, ◌⊎◌, ⊎_elim, subst, List, length, get_or}
-use Rattle.std.specs.Prelude.{ℤ, pos, ◌+ℤ◌, ◌*ℤ◌, ◌-ℤ◌, ◌<ℤ◌, ◌≤ℤ◌, slice_index_or}
+use Rattle.std.proofs.Common.{ℕ, zero, suc, ◌≡◌, ◌<◌, ◌≤◌, ◌+◌, ◌-◌, arith, refl, ap, sym, ◌∙◌, ⊎_elim, length, get_or}
+use Rattle.std.specs.Prelude.{ℤ, pos, ◌+ℤ◌, ◌*ℤ◌, ◌<ℤ◌, slice_index_or}
 use Rattle.std.proofs.Math.Path.{fun_ext}
 use Rattle.std.proofs.lemmas.Int.{ints}
 use Rattle.std.proofs.lemmas.Bool.{cases_eq, cases_lt}
 use Rattle.std.proofs.lemmas.Bool.Decides.{nat_tests}
-use Rattle.row_program.specs.Sums.{sum_from, LexPositive, LexNonnegative}
+use Rattle.row_program.specs.Sums.{sum_from}
 use Rattle.row_program.specs.Forms.{coefficient, empty_row}
 use Rattle.row_program.specs.declared.program.Row.{Row}
 use Rattle.row_program.specs.declared.program.Program.{Program}
 use Rattle.exact_num.proofs.Ring.{mul_add, leaf, plus, times, same}
-use Rattle.pivot_form.proofs.Sums.{zero_times, sum_from-same}
+use Rattle.pivot_form.proofs.Sums.{zero_times}
 use Rattle.dual_theory.specs.Values.{cost_at, row_at, value_of}
 use Rattle.dual_theory.proofs.Sums.{sum_from-zero}
 use Rattle.dual_theory.proofs.Directions.{combined}
@@ -38,9 +38,14 @@ sum_linear (suc n) v k x z a b = omega (arith, ints, term_linear (k v) a (x v) b
 
 row_linear : (n : ℕ) (row : Row) (x z : ℕ → ℤ) (a b d e : ℤ) → row_at n row (combined a x b z) (a *ℤ d +ℤ b *ℤ e) ≡ a *ℤ row_at n row x d +ℤ b *ℤ row_at n row z e
 row_linear n row x z a b d e =
-    omega (arith, ints, term_linear row.constant a d b e, sum_linear n 0 (coefficient row.terms) x z a b,
+    omega (
+      arith,
+      ints,
+      term_linear row.constant a d b e,
+      sum_linear n 0 (coefficient row.terms) x z a b,
       mul_add a (row.constant *ℤ d) (sum_from n 0 (λ u. coefficient row.terms u *ℤ x u)),
-      mul_add b (row.constant *ℤ e) (sum_from n 0 (λ u. coefficient row.terms u *ℤ z u)))
+      mul_add b (row.constant *ℤ e) (sum_from n 0 (λ u. coefficient row.terms u *ℤ z u)),
+    )
 
 pub linear : (p : Program) (x z : ℕ → ℤ) (a b d e : ℤ) (j : ℕ) → value_of p (combined a x b z) (a *ℤ d +ℤ b *ℤ e) j ≡ combined a (value_of p x d) b (value_of p z e) j
 linear p x z a b d e j =

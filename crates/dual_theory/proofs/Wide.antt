@@ -1,6 +1,6 @@
 -- Which programs are wide, and by which number.
-use Rattle.std.proofs.Common.{ℕ, zero, suc, ◌≡◌, ◌≢◌, ◌<◌, ◌≤◌, ◌+◌, ◌-◌, ◌*◌, ◌^◌, arith, refl, ap, sym, ◌∙◌, inl, inr, ◌⊎◌, ⊎_elim, subst, List, [], ◌∷◌, ◌++◌, length, get_or, map, Some, None, Bool, true, false, cond, leb}
-use Rattle.std.specs.Prelude.{ℤ, pos, ◌<ℤ◌, find, Option}
+use Rattle.std.proofs.Common.{ℕ, zero, suc, ◌≡◌, ◌<◌, ◌≤◌, ◌^◌, arith, refl, ap, sym, ◌∙◌, inl, inr, ◌⊎◌, ⊎_elim, subst, List, [], ◌∷◌, ◌++◌, length, get_or, map, Some, None, Bool, leb}
+use Rattle.std.specs.Prelude.{pos, ◌<ℤ◌, find}
 use Prim.Native.Nat.{◌∣◌}
 use Rattle.std.specs.List.{All, range_with_len}
 use Rattle.std.proofs.lemmas.Bool.{cases_eq, cases_lt, cases_Bool, cond-true, cond-false, leb-true, leb-false}
@@ -8,10 +8,9 @@ use Rattle.std.proofs.lemmas.List.{get_or_past}
 use Rattle.std.proofs.lemmas.List.FromFn.{length-map-range_with_len, get_or-map-range_with_len}
 use Rattle.std.proofs.lemmas.Nat.Gcd.{dvd_refl, dvd_trans, le_of_dvd}
 use Rattle.row_program.specs.Forms.{Table, first_large_of}
-use Rattle.row_program.specs.Points.{IsLeastPoint}
-use Rattle.row_program.specs.Method.{leaving, entering, step, run_of, IsBest, IsNever, HasLarge, HasLargeNumber, IsWide}
+use Rattle.row_program.specs.Method.{leaving, step, run_of, IsBest, IsNever, HasLargeNumber, IsWide}
 use Rattle.row_program.specs.declared.program.Program.{Program}
-use Rattle.dual_theory.specs.Ends.{common_den, lowest_den, whole_number, point_whole, point_den, large_in_point, IsWideSize}
+use Rattle.dual_theory.specs.Ends.{common_den, lowest_den, point_whole, point_den, large_in_point, IsWideSize}
 use Rattle.dual_theory.specs.Values.{IsRun}
 use Rattle.dual_theory.specs.Runs.{value_den}
 use Rattle.dual_theory.proofs.Found.{none_some, some_same, find_some, find_none}

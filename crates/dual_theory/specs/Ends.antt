@@ -1,5 +1,5 @@
 -- The point of the last form: the values of the program's variables in their least common denominator.
-use Rattle.std.specs.Prelude.{ℕ, ℤ, suc, zero, ◌≡◌, ◌<◌, ◌+◌, ◌*◌, ◌/◌, ◌^◌, ◌⊎◌, List, map, ◌++◌, length, nat_le, unsigned_abs, Option, Some, None, find}
+use Rattle.std.specs.Prelude.{ℕ, suc, zero, ◌≡◌, ◌<◌, ◌+◌, ◌*◌, ◌/◌, ◌^◌, ◌⊎◌, List, map, ◌++◌, length, nat_le, unsigned_abs, Option, Some, None, find}
 use Rattle.std.specs.List.{range_with_len}
 use Rattle.exact_num.specs.Divisors.{gcd_of}
 use Rattle.row_program.specs.Forms.{Table, first_large_of}

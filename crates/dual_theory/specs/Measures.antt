@@ -1,5 +1,5 @@
 -- A number of a form that falls along a run whose forms have no large entries.
-use Rattle.std.specs.Prelude.{ℕ, ℤ, pos, suc, zero, ◌+◌, ◌*◌, ◌-◌, ◌/◌, ◌^◌, ◌+ℤ◌, ◌*ℤ◌, unsigned_abs}
+use Rattle.std.specs.Prelude.{ℕ, pos, suc, zero, ◌+◌, ◌*◌, ◌-◌, ◌/◌, ◌^◌, ◌+ℤ◌, ◌*ℤ◌, unsigned_abs}
 use Rattle.row_program.specs.Forms.{Table}
 use Rattle.row_program.specs.Method.{value_count}
 use Rattle.dual_theory.specs.Runs.{value_num, value_den}

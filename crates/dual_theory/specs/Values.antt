@@ -1,9 +1,8 @@
 -- The values of all variables of a program, where those of the program's own are given, and what every form of a run keeps.
-use Rattle.std.specs.Prelude.{ℕ, ℤ, pos, ◌≡◌, ◌≢◌, ◌<◌, ◌≤◌, ◌+◌, ◌-◌, ◌+ℤ◌, ◌*ℤ◌, ◌<ℤ◌, ◌≤ℤ◌, List, [], length, slice_index, slice_index_or, if◌then◌else◌, ◌==◌, nat_le}
+use Rattle.std.specs.Prelude.{ℕ, ℤ, pos, ◌≡◌, ◌≢◌, ◌<◌, ◌+◌, ◌-◌, ◌+ℤ◌, ◌*ℤ◌, ◌<ℤ◌, ◌≤ℤ◌, length, slice_index, slice_index_or, if◌then◌else◌, ◌==◌, nat_le}
 use Rattle.exact_num.specs.Divisors.{IsPrimitive}
 use Rattle.row_program.specs.Sums.{sum_from, LexPositive}
 use Rattle.row_program.specs.Forms.{Table, Tableau, row_of, basic_of, right_side, tableau, coefficient, empty_row, variable_count, Holds, IsNonbasic}
-use Rattle.row_program.specs.Method.{value_count}
 use Rattle.row_program.specs.declared.program.Row.{Row}
 use Rattle.row_program.specs.declared.program.Program.{Program}
 use Rattle.pivot_form.specs.Invariant.{IsShaped}

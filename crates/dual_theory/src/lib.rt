@@ -10,8 +10,8 @@
 mod laws;
 
 pub use laws::{
-    columns_stay_positive, divided_multipliers_have_no_common_divisor,
-    every_run_ends, multipliers_bound_the_cost, multipliers_rule_out_every_point, no_form_comes_twice,
+    columns_stay_positive, divided_multipliers_have_no_common_divisor, every_run_ends,
+    multipliers_bound_the_cost, multipliers_rule_out_every_point, no_form_comes_twice,
     the_last_form_has_the_least_cost, the_last_form_has_the_least_point, the_least_point_is_one,
     the_measure_falls, the_wide_number_is_one, values_rise_with_each_pivot,
     without_a_candidate_there_is_no_point,
