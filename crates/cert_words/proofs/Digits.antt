@@ -6,7 +6,7 @@ use Rattle.std.specs.Str.Parse.{digits_value}
 use Rattle.std.specs.Char.{digit_value}
 use Rattle.std.proofs.lemmas.Str.Parse.{IsNumeralModel, IsDigitsTest, numerals_by_value, digits_value-take-le, digit_at}
 use Rattle.std.proofs.lemmas.Int.Digits.{digits_value_more}
-use Rattle.cert_words.specs.Number.{is_digit}
+use Rattle.cert_words.specs.Forms.{is_digit}
 
 tells : IsDigitsTest (λ ds. list_all is_digit ds ≡ true)
 tells = search rules

@@ -7,7 +7,7 @@ use Rattle.std.proofs.lemmas.Bool.{ltb-false, ltb-true, le-ltb, lt-ltb, cases_lt
 use Rattle.std.proofs.lemmas.Fmt.{decimal-digits_value, digits_decimal, digits_value-decimal, first_decimal, decimal_nonempty, decimal_digit}
 use Rattle.cert_words.specs.declared.numbers.LineFault.{LineFault}
 use Rattle.cert_words.specs.declared.numbers.LineFault.TheVariants.{BadLine, BadNumber}
-use Rattle.cert_words.specs.Number.{is_digit, is_number, has_leading_zero, number_of}
+use Rattle.cert_words.specs.Forms.{is_digit, is_number, has_leading_zero, number_of}
 use Rattle.cert_words.proofs.Digits.{own}
 
 pub and_parts : (a b : Bool) → (a && b) ≡ true → (a ≡ true) × (b ≡ true)

@@ -8,7 +8,7 @@ use Rattle.std.proofs.lemmas.List.Splits.{slice_split-cons_no, slice_split-cons_
 use Rattle.std.proofs.lemmas.List.Quantifiers.{position-Some}
 use Rattle.std.proofs.lemmas.Fmt.{digits_decimal}
 use Rattle.cert_words.specs.Words.{fields_of, line_of}
-use Rattle.cert_words.specs.Number.{is_digit}
+use Rattle.cert_words.specs.Forms.{is_digit}
 use Rattle.cert_words.proofs.Digits.{own}
 use Rattle.cert_words.proofs.Inverse.{and_parts}
 

@@ -4,7 +4,7 @@ use Rattle.std.specs.List.{AllByRecursion}
 use Rattle.std.specs.Fmt.{decimal}
 use Rattle.cert_words.specs.declared.numbers.LineFault.{LineFault}
 use Rattle.cert_words.specs.declared.numbers.LineFault.TheVariants.{BadLine, BadNumber}
-use Rattle.cert_words.specs.Number.{number_of, numbers_of, joined, single, both, one_of, two_of, alone}
+use Rattle.cert_words.specs.Forms.{number_of, numbers_of, joined, single, both, one_of, two_of, alone}
 use Rattle.cert_words.proofs.Inverse.{number_takes, number_again}
 
 joined_assoc : (a b c : Result (List ℕ) LineFault) → joined (joined a b) c ≡ joined a (joined b c)

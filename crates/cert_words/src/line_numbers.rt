@@ -2,7 +2,7 @@
 ghost use Rattle.std.specs.Prelude.{◌≡◌, ◌<◌, ◌≤◌, ◌^◌, [], IfOk};
 ghost use Rattle.std.specs.Str.{bytes_eq};
 ghost use Rattle.cert_words.specs.Words.{ahead};
-ghost use Rattle.cert_words.specs.Number.{alone, made, one_of, two_of, numbers_of, joined, single};
+ghost use Rattle.cert_words.specs.Forms.{begins, behind, alone, made, one_of, two_of, numbers_of, count_of, joined, single};
 
 use crate::lists::NumberList;
 use crate::numbers::{LineFault, both, number};
@@ -87,6 +87,36 @@ pub fn any_numbers<N: NumberList>(
         found = with_number(found, number(low, high, field.text))?;
     }
     Ok(found)
+}
+
+/// The numbers that are left, exactly so many and each from `low` to `high`, in the list `empty`.
+pub fn so_many_numbers<N: NumberList>(
+    empty: N,
+    count: usize,
+    low: u64,
+    high: u64,
+    fields: &mut Fields<'_>,
+) -> Result<Result<N, LineFault>, Memory>
+    requires limit { high < 2 ^ 63 }
+    requires kept { high ≤ N.most }
+    requires empty { N.numbers empty ≡ [] }
+    ensures { IfOk result (λ r. made N.numbers r ≡ count_of count low high (ahead fields.old)) }
+{
+    if fields.left() != count {
+        return Ok(Err(LineFault::BadLine));
+    }
+    any_numbers(empty, low, high, fields)
+}
+
+/// Whether the next field is this word; it is passed over.
+pub fn next_is(fields: &mut Fields<'_>, word: &[u8]) -> bool
+    ensures is { result ≡ begins word.now (ahead fields.old) }
+    ensures rest { ahead fields.new ≡ behind (ahead fields.old) }
+{
+    match fields.next() {
+        None => false,
+        Some(field) => is_word(field.text, word),
+    }
 }
 
 /// Whether the field is this word.

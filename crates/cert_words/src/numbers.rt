@@ -2,7 +2,7 @@
 ghost use Rattle.std.specs.Prelude.{◌≡◌, ◌<◌, ◌≤◌, ◌^◌, ◌&&◌, nat_lt, nat_le, length, MatchOption, IfOk, Ok, Err, true};
 ghost use Rattle.std.specs.List.{list_all};
 ghost use Rattle.std.specs.Str.Parse.{digits_value};
-ghost use Rattle.cert_words.specs.Number.{number_of, both, is_digit, is_number, has_leading_zero};
+ghost use Rattle.cert_words.specs.Forms.{number_of, both, is_digit, is_number, has_leading_zero};
 
 /// What is wrong with a line.
 #[derive(Clone, Copy, Debug, PartialEq, Eq)]

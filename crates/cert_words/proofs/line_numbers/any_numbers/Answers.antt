@@ -1,5 +1,5 @@
 use Rattle.cert_words.specs.Words.{ahead}
-use Rattle.cert_words.specs.Number.{made}
+use Rattle.cert_words.specs.Forms.{made}
 use Rattle.cert_words.proofs.Many.{goes_on}
 use Rattle.cert_words.proofs.line_numbers.any_numbers.Goals as goal
 

@@ -1,6 +1,6 @@
 use Rattle.std.proofs.Common.{◌≡◌, length}
 use Rattle.cert_words.specs.Words.{ahead}
-use Rattle.cert_words.specs.Number.{made, numbers_of, joined}
+use Rattle.cert_words.specs.Forms.{made, numbers_of, joined}
 use Rattle.cert_words.proofs.line_numbers.any_numbers.Given as goal
 
 abbrev pub invariant-loop-field : goal.invariant-loop-field

@@ -1,6 +1,7 @@
--- Numbers in a line, and what is wrong with a line first.
-use Rattle.std.specs.Prelude.{ℕ, ◌==◌, ◌||◌, ◌&&◌, not, nat_lt, nat_le, if◌then◌else◌, List, [], ◌∷◌, ◌++◌, Bool, length, slice_index, Result, Ok, Err}
+-- Forms of a line: what its fields give, or what is wrong with it first.
+use Rattle.std.specs.Prelude.{ℕ, ◌==◌, ◌||◌, ◌&&◌, not, nat_lt, nat_le, if◌then◌else◌, List, [], ◌∷◌, ◌++◌, Bool, false, length, slice_index, Result, Ok, Err}
 use Rattle.std.specs.List.{list_all}
+use Rattle.std.specs.Str.{bytes_eq}
 use Rattle.std.specs.Str.Parse.{digits_value}
 use Rattle.cert_words.specs.declared.numbers.LineFault.{LineFault}
 use Rattle.cert_words.specs.declared.numbers.LineFault.TheVariants.{BadLine, BadNumber}
@@ -40,6 +41,19 @@ abbrev pub alone : {A : Type 0} → Result A LineFault → List (List ℕ) → R
 alone x [] = x
 alone x (field ∷ fields) = Err BadLine
 
+-- whether the first field is this word, and what stands behind the first field
+abbrev pub begins : List ℕ → List (List ℕ) → Bool
+begins word [] = false
+begins word (field ∷ fields) = bytes_eq field word
+
+abbrev pub behind : List (List ℕ) → List (List ℕ)
+behind [] = []
+behind (field ∷ fields) = fields
+
+-- what stands behind a word
+abbrev pub after : {A : Type 0} → List ℕ → (List (List ℕ) → Result A LineFault) → List (List ℕ) → Result A LineFault
+after word form fields = if begins word fields then form (behind fields) else Err BadLine
+
 -- one number, or two, and then no field
 abbrev pub one_of : ℕ → ℕ → List (List ℕ) → Result ℕ LineFault
 one_of low high [] = Err BadLine
@@ -59,3 +73,7 @@ single number = made (λ n. n ∷ []) number
 abbrev pub numbers_of : ℕ → ℕ → List (List ℕ) → Result (List ℕ) LineFault
 numbers_of low high [] = Ok []
 numbers_of low high (field ∷ fields) = joined (single (number_of low high field)) (numbers_of low high fields)
+
+-- exactly so many numbers
+abbrev pub count_of : ℕ → ℕ → ℕ → List (List ℕ) → Result (List ℕ) LineFault
+count_of count low high fields = if not (length fields == count) then Err BadLine else numbers_of low high fields
