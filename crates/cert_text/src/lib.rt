@@ -1,0 +1,21 @@
+//! Certificates as text, in both directions.
+//!
+//! A certificate says what is claimed of a contest, the goal and the replacements that turn its outcome, and the tree of bounds
+//! by which fewer don't. The grammar is a relation between bytes and certificates (`specs/CertText.antt`). The crate promises
+//! that `read_cert` answers the certificate exactly where the text is in the grammar, and otherwise the first fault with its
+//! line; that `print_cert` writes the text of a certificate within the limits; that one text has one certificate and one
+//! certificate one text. It stands on the rules and outcomes of `ballot_form`, the replacements of `alteration_model`, the
+//! trees of `bound_tree` and the lines of `cert_words`.
+#![tactic(auto)]
+
+mod cert;
+mod fault;
+mod head_line;
+mod reader;
+mod tree_line;
+mod tree_read;
+mod turn_line;
+
+pub use cert::{Cert, Claim, GoalText, Stop};
+pub use cert_words::{fields, parts};
+pub use fault::{CertFault, CertKind};
