@@ -1,2 +1,8 @@
 mod Growing
 mod Numbers
+mod Choices
+mod Lines
+mod Cutting
+mod Forms
+mod Shapes
+mod Trees
