@@ -6,3 +6,6 @@ mod Cutting
 mod Forms
 mod Shapes
 mod Trees
+mod HeadForms
+mod OutcomeForms
+mod TurnForms
