@@ -9,3 +9,5 @@ mod Trees
 mod HeadForms
 mod OutcomeForms
 mod TurnForms
+mod Whole
+mod Answering

@@ -9,13 +9,17 @@
 #![tactic(auto)]
 
 mod cert;
+mod cert_read;
 mod fault;
 mod head_line;
+mod laws;
 mod reader;
 mod tree_line;
 mod tree_read;
 mod turn_line;
 
 pub use cert::{Cert, Claim, GoalText, Stop};
+pub use cert_read::read_cert;
 pub use cert_words::{fields, parts};
 pub use fault::{CertFault, CertKind};
+pub use laws::a_certificate_has_one_text;
