@@ -11,3 +11,4 @@ mod OutcomeForms
 mod TurnForms
 mod Whole
 mod Answering
+mod Writing

@@ -13,13 +13,17 @@ mod cert_read;
 mod fault;
 mod head_line;
 mod laws;
+mod line_write;
 mod reader;
 mod tree_line;
 mod tree_read;
+mod tree_write;
 mod turn_line;
+mod write;
 
 pub use cert::{Cert, Claim, GoalText, Stop};
 pub use cert_read::read_cert;
 pub use cert_words::{fields, parts};
 pub use fault::{CertFault, CertKind};
 pub use laws::a_certificate_has_one_text;
+pub use write::print_cert;
