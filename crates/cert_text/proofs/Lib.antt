@@ -12,3 +12,4 @@ mod TurnForms
 mod Whole
 mod Answering
 mod Writing
+mod Limits

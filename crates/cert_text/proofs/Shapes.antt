@@ -57,7 +57,7 @@ all_right P (x ∷ xs) ys h = all_right P xs ys (All-tail P x (xs ++ ys) h)
 
 -- ---- trees of the program
 
-count_of_kids : (kids : List Tree) → kid_count (kids_of (map plain_of kids)) ≡ length kids
+pub count_of_kids : (kids : List Tree) → kid_count (kids_of (map plain_of kids)) ≡ length kids
 count_of_kids [] = refl
 count_of_kids (kid ∷ kids) = ap suc (count_of_kids kids)
 
