@@ -28,7 +28,7 @@ fits_Split kids =
     let plain = kids_of (map plain_of kids) in
     let is : lines_of (plain_of (program.Split kids)) ≡ SplitInto (length kids) ∷ lines_of_all plain = ap lines_of (plain_Split kids) ∙ ap (λ n. SplitInto n ∷ lines_of_all plain) (count_of_kids kids) in (
       λ h. (let all : All LineFits (SplitInto (length kids) ∷ lines_of_all plain) = subst (All LineFits) is h in
-      (All-head LineFits (SplitInto (length kids)) (lines_of_all plain) all, kids_to kids (All-tail LineFits (SplitInto (length kids)) (lines_of_all plain) all))),
+          (All-head LineFits (SplitInto (length kids)) (lines_of_all plain) all, kids_to kids (All-tail LineFits (SplitInto (length kids)) (lines_of_all plain) all))),
       λ h. subst (All LineFits) (sym is) (All-cons LineFits (SplitInto (length kids)) (lines_of_all plain) h.0 (kids_from kids h.1)),
     )
 
@@ -38,8 +38,8 @@ fits_Branch f v low high =
     let higher = lines_of (plain_of high) in
     let is : lines_of (plain_of (program.Branch f v low high)) ≡ BranchBy f v ∷ (lower ++ higher) = ap lines_of (plain_Branch f v low high) in (
       λ h. (let all : All LineFits (BranchBy f v ∷ (lower ++ higher)) = subst (All LineFits) is h in
-      let both = All-tail LineFits (BranchBy f v) (lower ++ higher) all in
-      (All-head LineFits (BranchBy f v) (lower ++ higher) all, all_left LineFits lower higher both, all_right LineFits lower higher both)),
+          let both = All-tail LineFits (BranchBy f v) (lower ++ higher) all in
+          (All-head LineFits (BranchBy f v) (lower ++ higher) all, all_left LineFits lower higher both, all_right LineFits lower higher both)),
       λ h. subst (All LineFits) (sym is) (All-cons LineFits (BranchBy f v) (lower ++ higher) h.0 (All-append LineFits lower higher h.1 h.2)),
     )
 

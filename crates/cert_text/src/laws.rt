@@ -11,5 +11,4 @@ pub fn a_certificate_has_one_text()
     ensures text { (s t : List ℕ) (x : Cert) → CertText s x → CertText t x → s ≡ t }
     ensures read { (text : List ℕ) (x : Cert) → (cert_at text ≡ Ok x) ↔ CertText text x }
     ensures fault { (text : List ℕ) → (first_fault text ≡ None) ↔ ((x : Cert) × CertText text x) }
-{
-}
+{}

@@ -30,3 +30,6 @@ pub use fault::{CertFault, CertKind};
 pub use laws::a_certificate_has_one_text;
 pub use printable::is_printable;
 pub use write::print_cert;
+
+#[cfg(test)]
+mod tests;

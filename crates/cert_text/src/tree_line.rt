@@ -6,9 +6,7 @@ ghost use Rattle.cert_text.specs.TreeLines.{seen, tree_line, split_line, cut_lin
 
 use bound_tree::Multipliers;
 use cert_words::parts::Fields;
-use cert_words::{
-    LineFault, any_numbers, both, fields, is_word, number, one_number, two_numbers,
-};
+use cert_words::{LineFault, any_numbers, both, fields, is_word, number, one_number, two_numbers};
 use mov_base::{List, Memory};
 use row_program::Feature;
 use std::alloc::Global;
@@ -103,9 +101,7 @@ fn read_cut(alloc: Global, rest: &mut Fields<'_>) -> Result<Result<TreeLine, Lin
         return Ok(Err(LineFault::BadLine));
     }
     match any_numbers(List::new(alloc), 0, 9_223_372_036_854_775_807, rest)? {
-        Ok(numbers) => Ok(Ok(TreeLine::Cut(Multipliers::from_vec(
-            numbers.into_vec(),
-        )))),
+        Ok(numbers) => Ok(Ok(TreeLine::Cut(Multipliers::from_vec(numbers.into_vec())))),
         Err(fault) => Ok(Err(fault)),
     }
 }

@@ -14,11 +14,7 @@ use tree_owners::{Many, One};
 
 /// A good line of a tree whose first line is `first`.
 #[tactic(auto, unfolding(crate::specs::TreeReading::tree_line_at))]
-fn next_tree_line(
-    alloc: Global,
-    first: u32,
-    reader: &mut Reader<'_>,
-) -> Result<TreeLine, ReadError>
+fn next_tree_line(alloc: Global, first: u32, reader: &mut Reader<'_>) -> Result<TreeLine, ReadError>
     requires first { first < 2 ^ 21 }
     requires number { reader.old.number ≤ first + 100000 }
     ensures line { Gives (λ x. (seen x, (reader.new.number, reader.new.rest.now))) result (tree_line_at first (reader.old.number, reader.old.rest.now)) }

@@ -13,7 +13,9 @@ mod lists;
 mod numbers;
 pub mod parts;
 
-pub use line_numbers::{any_numbers, is_word, next_is, nothing_more, one_number, so_many_numbers, two_numbers};
+pub use line_numbers::{
+    any_numbers, is_word, next_is, nothing_more, one_number, so_many_numbers, two_numbers,
+};
 pub use lists::NumberList;
 pub use numbers::{LineFault, both, number};
 use parts::Fields;

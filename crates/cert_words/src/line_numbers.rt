@@ -10,7 +10,10 @@ use crate::parts::Fields;
 use mov_base::Memory;
 
 /// The part, where no field is left.
-pub fn nothing_more<T: Drop>(part: Result<T, LineFault>, fields: &mut Fields<'_>) -> Result<T, LineFault>
+pub fn nothing_more<T: Drop>(
+    part: Result<T, LineFault>,
+    fields: &mut Fields<'_>,
+) -> Result<T, LineFault>
     ensures { result ≡ alone part (ahead fields.old) }
 {
     match fields.next() {

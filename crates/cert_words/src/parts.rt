@@ -71,14 +71,14 @@ impl<'a> Fields<'a> {
         count
     }
 
-    /// The next field, and none exactly after the last. Each field starts behind the one before and the space that ends it. It
-    /// takes no memory.
+    /// The next field, and none exactly after the last. The one after it starts behind the space that ends it. It takes no
+    /// memory.
     pub fn next(&mut self) -> Option<Field<'a>>
         ensures next { MatchOption result ((ahead self.old ≡ []) × (ahead self.new ≡ [])) (λ f. ahead self.old ≡ f.text.now ∷ ahead self.new) }
         ensures span { IfSome result (λ f. f.text.now ≡ slice_range self.old.line f.start (f.start + length f.text.now)) }
         ensures start { IfSome result (λ f. f.start ≡ self.old.start) }
         ensures line { self.new.line ≡ self.old.line }
-        ensures rises { IfSome result (λ f. f.start + length f.text.now ≤ self.new.start) }
+        ensures rises { IfSome result (λ f. self.new.done ≡ false → f.start + length f.text.now < self.new.start) }
     {
         if self.done {
             return None;
@@ -94,7 +94,6 @@ impl<'a> Fields<'a> {
                 })
             }
             None => {
-                self.start = self.line.len();
                 self.done = true;
                 Some(Field { text: rest, start })
             }
