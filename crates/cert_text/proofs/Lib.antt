@@ -12,4 +12,4 @@ mod TurnForms
 mod Whole
 mod Answering
 mod Writing
-mod Limits
+mod Fitting

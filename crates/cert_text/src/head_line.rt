@@ -4,6 +4,7 @@ ghost use Rattle.cert_words.specs.Words.{fields_of, ahead};
 ghost use Rattle.cert_text.specs.HeadLines.{first_line, rule_of, rule_line, size_line, winner_or_none_of, winner_of, seats_of, reported_line, stop_of, bounds_of, claim_line, puts_of};
 
 use crate::cert::{Claim, Stop};
+use crate::limits::{MOST_BALLOTS, MOST_BUDGET, MOST_CANDIDATE, MOST_CANDIDATES, MOST_SEATS};
 use ballot_form::{Outcome, Rule, SeatList};
 use cert_words::parts::Fields;
 use cert_words::{
@@ -51,7 +52,7 @@ fn rule_named(name: &[u8], rest: &mut Fields<'_>) -> Result<Rule, LineFault>
     } else if is_word(name, b"irv") {
         nothing_more(Ok(Rule::Irv), rest)
     } else if is_word(name, b"dhondt") {
-        let seats = one_number(1, 500, rest)?;
+        let seats = one_number(1, MOST_SEATS, rest)?;
         Ok(Rule::Dhondt(seats as u16))
     } else {
         Err(LineFault::BadLine)
@@ -66,7 +67,7 @@ pub(crate) fn read_size(line: &[u8]) -> Result<(u8, u32), LineFault>
     if !next_is(&mut rest, b"size") {
         return Err(LineFault::BadLine);
     }
-    let (c, ballots) = two_numbers(1, 12, 0, 1_000_000, &mut rest)?;
+    let (c, ballots) = two_numbers(1, MOST_CANDIDATES, 0, MOST_BALLOTS, &mut rest)?;
     Ok((c as u8, ballots as u32))
 }
 
@@ -98,7 +99,7 @@ fn read_seats(
 ) -> Result<Result<Outcome, LineFault>, Memory>
     ensures { IfOk result (λ r. r ≡ seats_of c (ahead rest.old)) }
 {
-    match so_many_numbers(SeatList::new(alloc), usize::from(c), 0, 500, rest)? {
+    match so_many_numbers(SeatList::new(alloc), usize::from(c), 0, MOST_SEATS, rest)? {
         Ok(seats) => Ok(Ok(Outcome::Seats(seats))),
         Err(fault) => Ok(Err(fault)),
     }
@@ -114,7 +115,7 @@ fn read_winner_or_none(rest: &mut Fields<'_>) -> Result<Outcome, LineFault>
             if is_word(field.text, b"none") {
                 return nothing_more(Ok(Outcome::NoWinner), rest);
             }
-            let x = nothing_more(number(0, 255, field.text), rest)?;
+            let x = nothing_more(number(0, MOST_CANDIDATE, field.text), rest)?;
             Ok(Outcome::Winner(x as u8))
         }
     }
@@ -124,7 +125,7 @@ fn read_winner_or_none(rest: &mut Fields<'_>) -> Result<Outcome, LineFault>
 fn read_winner(rest: &mut Fields<'_>) -> Result<Outcome, LineFault>
     ensures { result ≡ winner_of (ahead rest.old) }
 {
-    let x = one_number(0, 255, rest)?;
+    let x = one_number(0, MOST_CANDIDATE, rest)?;
     Ok(Outcome::Winner(x as u8))
 }
 
@@ -138,7 +139,7 @@ pub(crate) fn read_claim(line: &[u8]) -> Result<Claim, LineFault>
         None => Err(LineFault::BadLine),
         Some(word) => {
             if is_word(word.text, b"margin") {
-                let k = one_number(0, 1_000_000, &mut rest)?;
+                let k = one_number(0, MOST_BALLOTS, &mut rest)?;
                 Ok(Claim::Margin(k as u32))
             } else if is_word(word.text, b"fixed") {
                 nothing_more(Ok(Claim::Fixed), &mut rest)
@@ -161,8 +162,8 @@ fn read_bounds(rest: &mut Fields<'_>) -> Result<Claim, LineFault>
         Some(low) => match rest.next() {
             None => Err(LineFault::BadLine),
             Some(up) => {
-                let low = number(0, 1_000_000, low.text);
-                let up = number(0, 1_000_000, up.text);
+                let low = number(0, MOST_BALLOTS, low.text);
+                let up = number(0, MOST_BALLOTS, up.text);
                 let (low, (up, stop)) = both(low, both(up, read_stop(rest)))?;
                 Ok(Claim::Bounds {
                     low: low as u32,
@@ -182,7 +183,7 @@ fn read_stop(rest: &mut Fields<'_>) -> Result<Stop, LineFault>
         None => Err(LineFault::BadLine),
         Some(word) => {
             if is_word(word.text, b"budget") {
-                let nodes = one_number(1, 40_000, rest)?;
+                let nodes = one_number(1, MOST_BUDGET, rest)?;
                 Ok(Stop::Budget(nodes as u32))
             } else if is_word(word.text, b"depth") {
                 nothing_more(Ok(Stop::Depth), rest)

@@ -13,6 +13,7 @@ mod cert_read;
 mod fault;
 mod head_line;
 mod laws;
+mod limits;
 mod line_write;
 mod printable;
 mod reader;

@@ -4,6 +4,7 @@ ghost use Rattle.ballot_form.specs.Rules.{IsRule};
 ghost use Rattle.cert_text.specs.CertText.{SizeFits, OutcomeFits, StopFits, ClaimFits, GoalFits, PutFits, TurnFits, BodyFits, IsPrintable, CertText};
 
 use crate::cert::{Cert, Claim, GoalText, Stop};
+use crate::limits::{MOST_BALLOTS, MOST_BUDGET, MOST_CANDIDATE, MOST_CANDIDATES, MOST_SEATS};
 use crate::tree_limits::bound_fits;
 use alteration_model::Put;
 use ballot_form::{Cand, Outcome, Rule};
@@ -27,7 +28,7 @@ fn rule_fits(rule: Rule) -> bool
     ensures { IsTrue result ↔ IsRule rule }
 {
     match rule {
-        Rule::Dhondt(seats) => 1 <= seats && seats <= 500,
+        Rule::Dhondt(seats) => 1 <= seats && u64::from(seats) <= MOST_SEATS,
         _ => true,
     }
 }
@@ -36,7 +37,7 @@ fn rule_fits(rule: Rule) -> bool
 fn size_fits(c: u8, ballots: u32) -> bool
     ensures { IsTrue result ↔ SizeFits (c, ballots) }
 {
-    1 <= c && c <= 12 && ballots <= 1_000_000
+    1 <= c && u64::from(c) <= MOST_CANDIDATES && u64::from(ballots) <= MOST_BALLOTS
 }
 
 /// Whether the outcome is one of the rule with `c` candidates.
@@ -58,21 +59,21 @@ fn outcome_fits(rule: Rule, c: u8, reported: &Outcome) -> bool
 fn seats_fit(seats: &[u16]) -> bool
     ensures { IsTrue result ↔ All (λ s. s ≤ 500) seats.now }
 {
-    seats.iter().all(|s| *s <= 500)
+    seats.iter().all(|s| u64::from(*s) <= MOST_SEATS)
 }
 
 /// Whether a candidate's number is within its limits.
 fn candidate_fits(x: Cand) -> bool
     ensures { IsTrue result ↔ (x ≤ 255) }
 {
-    u32::from(x) <= 255
+    u64::from(x) <= MOST_CANDIDATE
 }
 
 /// Whether each candidate's number is.
 fn candidates_fit(row: &[Cand]) -> bool
     ensures { IsTrue result ↔ All (λ x. x ≤ 255) row.now }
 {
-    row.iter().all(|x| u32::from(*x) <= 255)
+    row.iter().all(|x| u64::from(*x) <= MOST_CANDIDATE)
 }
 
 /// Whether the numbers of a claim are within their limits.
@@ -80,9 +81,12 @@ fn claim_fits(claim: Claim) -> bool
     ensures { IsTrue result ↔ ClaimFits claim }
 {
     match claim {
-        Claim::Margin(k) => k <= 1_000_000,
+        Claim::Margin(k) => u64::from(k) <= MOST_BALLOTS,
         Claim::Fixed => true,
-        Claim::Bounds { low, up, stop } => low <= 1_000_000 && up <= 1_000_000 && stop_fits(stop),
+        Claim::Bounds { low, up, stop } => {
+            let low_fits = u64::from(low) <= MOST_BALLOTS;
+            low_fits && u64::from(up) <= MOST_BALLOTS && stop_fits(stop)
+        },
     }
 }
 
@@ -91,7 +95,7 @@ fn stop_fits(stop: Stop) -> bool
     ensures { IsTrue result ↔ StopFits stop }
 {
     match stop {
-        Stop::Budget(nodes) => 1 <= nodes && nodes <= 40_000,
+        Stop::Budget(nodes) => 1 <= nodes && u64::from(nodes) <= MOST_BUDGET,
         Stop::Depth => true,
     }
 }
@@ -141,5 +145,5 @@ fn puts_fit(puts: &[Put]) -> bool
 fn put_fits(put: &Put) -> bool
     ensures { IsTrue result ↔ PutFits put.now }
 {
-    put.number <= 1_000_000 && candidates_fit(put.ballot.as_slice())
+    u64::from(put.number) <= MOST_BALLOTS && candidates_fit(put.ballot.as_slice())
 }

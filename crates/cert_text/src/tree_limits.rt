@@ -5,6 +5,7 @@ ghost use Rattle.bound_tree.specs.Nodes.{size, height};
 ghost use Rattle.bound_tree.specs.Plain.{plain_of};
 ghost use Rattle.cert_text.specs.CertText.{LineFits};
 
+use crate::limits::{MOST_ENTERED, MOST_KEY, MOST_KIDS, MOST_LEFT, MOST_MULTIPLIERS, MOST_VALUE};
 use bound_tree::{BoundTree, MOST_DEPTH, MOST_NODES, Tree};
 use row_program::Feature;
 
@@ -19,16 +20,16 @@ pub(crate) fn bound_fits(tree: &BoundTree) -> bool
 
 /// Whether each line of the tree is within its limits.
 #[cycle(trees)]
-#[tactic(auto, using(crate::proofs::Limits::fits_Split, crate::proofs::Limits::fits_Branch, crate::proofs::Limits::fits_Cut, bound_tree::proofs::Shapes::size_Split, bound_tree::proofs::Shapes::size_Branch))]
+#[tactic(auto, using(crate::proofs::Fitting::fits_Split, crate::proofs::Fitting::fits_Branch, crate::proofs::Fitting::fits_Cut, bound_tree::proofs::Shapes::size_Split, bound_tree::proofs::Shapes::size_Branch))]
 fn tree_fits(tree: &Tree) -> bool
     ensures { IsTrue result ↔ All LineFits (lines_of (plain_of tree.now)) }
 {
     match tree {
-        Tree::Split(kids) => kids.len() <= 1560 && trees_fit(kids.as_slice()),
+        Tree::Split(kids) => kids.len() as u64 <= MOST_KIDS && trees_fit(kids.as_slice()),
         Tree::Branch(feature, value, low, high) => {
             branch_fits(*feature, *value) && halves_fit(low.get(), high.get())
         }
-        Tree::Cut(multipliers) => multipliers.as_slice().len() <= 1035,
+        Tree::Cut(multipliers) => multipliers.as_slice().len() <= MOST_MULTIPLIERS,
     }
 }
 
@@ -58,7 +59,10 @@ fn branch_fits(feature: Feature, value: u32) -> bool
     ensures { IsTrue result ↔ LineFits (BranchBy feature value) }
 {
     match feature {
-        Feature::From(key) => key <= 1_099_511_627_775 && value <= 999_999,
-        Feature::Arc(u, x) => u <= 39 && 1 <= x && x <= 40 && value <= 999_999,
+        Feature::From(key) => key <= MOST_KEY && u64::from(value) <= MOST_VALUE,
+        Feature::Arc(u, x) => {
+            let places = u64::from(u) <= MOST_LEFT && 1 <= x && u64::from(x) <= MOST_ENTERED;
+            places && u64::from(value) <= MOST_VALUE
+        },
     }
 }

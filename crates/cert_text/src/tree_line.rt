@@ -4,6 +4,9 @@ ghost use Rattle.cert_words.specs.Words.{fields_of, ahead};
 ghost use Rattle.cert_words.specs.Forms.{made};
 ghost use Rattle.cert_text.specs.TreeLines.{seen, tree_line, split_line, cut_line, branch_line, from_line, arc_line};
 
+use crate::limits::{
+    MOST_ENTERED, MOST_KEY, MOST_KIDS, MOST_LEFT, MOST_MULTIPLIER, MOST_MULTIPLIERS, MOST_VALUE,
+};
 use bound_tree::Multipliers;
 use cert_words::parts::Fields;
 use cert_words::{LineFault, any_numbers, both, fields, is_word, number, one_number, two_numbers};
@@ -47,7 +50,7 @@ pub(crate) fn read_tree_line(
 fn read_split(rest: &mut Fields<'_>) -> Result<TreeLine, LineFault>
     ensures { made seen result ≡ split_line (ahead rest.old) }
 {
-    let kids = one_number(0, 1560, rest)?;
+    let kids = one_number(0, MOST_KIDS, rest)?;
     Ok(TreeLine::Split(kids as u32))
 }
 
@@ -73,7 +76,7 @@ fn read_branch(rest: &mut Fields<'_>) -> Result<TreeLine, LineFault>
 fn read_from(rest: &mut Fields<'_>) -> Result<TreeLine, LineFault>
     ensures { made seen result ≡ from_line (ahead rest.old) }
 {
-    let (key, value) = two_numbers(0, 1_099_511_627_775, 0, 999_999, rest)?;
+    let (key, value) = two_numbers(0, MOST_KEY, 0, MOST_VALUE, rest)?;
     Ok(TreeLine::Branch(Feature::From(key), value as u32))
 }
 
@@ -84,8 +87,8 @@ fn read_arc(rest: &mut Fields<'_>) -> Result<TreeLine, LineFault>
     match rest.next() {
         None => Err(LineFault::BadLine),
         Some(field) => {
-            let u = number(0, 39, field.text);
-            let (u, (x, value)) = both(u, two_numbers(1, 40, 0, 999_999, rest))?;
+            let u = number(0, MOST_LEFT, field.text);
+            let (u, (x, value)) = both(u, two_numbers(1, MOST_ENTERED, 0, MOST_VALUE, rest))?;
             let arc = Feature::Arc(u as u8, x as u8);
             Ok(TreeLine::Branch(arc, value as u32))
         }
@@ -97,10 +100,10 @@ fn read_arc(rest: &mut Fields<'_>) -> Result<TreeLine, LineFault>
 fn read_cut(alloc: Global, rest: &mut Fields<'_>) -> Result<Result<TreeLine, LineFault>, Memory>
     ensures { IfOk result (λ r. made seen r ≡ cut_line (ahead rest.old)) }
 {
-    if rest.left() > 1035 {
+    if rest.left() > MOST_MULTIPLIERS {
         return Ok(Err(LineFault::BadLine));
     }
-    match any_numbers(List::new(alloc), 0, 9_223_372_036_854_775_807, rest)? {
+    match any_numbers(List::new(alloc), 0, MOST_MULTIPLIER, rest)? {
         Ok(numbers) => Ok(Ok(TreeLine::Cut(Multipliers::from_vec(numbers.into_vec())))),
         Err(fault) => Ok(Err(fault)),
     }

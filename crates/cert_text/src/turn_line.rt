@@ -5,6 +5,7 @@ ghost use Rattle.cert_words.specs.Words.{fields_of, ahead};
 ghost use Rattle.cert_text.specs.HeadLines.{goal_of, goal_line, put_fields, put_line};
 
 use crate::cert::GoalText;
+use crate::limits::{MOST_BALLOTS, MOST_CANDIDATE};
 use alteration_model::Put;
 use ballot_form::CandList;
 use cert_words::parts::Fields;
@@ -47,7 +48,13 @@ fn read_order(
 ) -> Result<Result<GoalText, LineFault>, Memory>
     ensures { IfOk result (λ r. r ≡ goal_of c (codes "order") (ahead rest.old)) }
 {
-    match so_many_numbers(CandList::new(alloc), usize::from(c), 0, 255, rest)? {
+    match so_many_numbers(
+        CandList::new(alloc),
+        usize::from(c),
+        0,
+        MOST_CANDIDATE,
+        rest,
+    )? {
         Ok(order) => Ok(Ok(GoalText::Order(order))),
         Err(fault) => Ok(Err(fault)),
     }
@@ -58,10 +65,10 @@ fn read_small_goal(kind: &[u8], rest: &mut Fields<'_>) -> Result<GoalText, LineF
     ensures { (c : ℕ) → bytes_eq kind.now (codes "order") ≡ false → result ≡ goal_of c kind.now (ahead rest.old) }
 {
     if is_word(kind, b"pair") {
-        let (gainer, loser) = two_numbers(0, 255, 0, 255, rest)?;
+        let (gainer, loser) = two_numbers(0, MOST_CANDIDATE, 0, MOST_CANDIDATE, rest)?;
         Ok(GoalText::Pair(gainer as u8, loser as u8))
     } else if is_word(kind, b"cover") {
-        let x = one_number(0, 255, rest)?;
+        let x = one_number(0, MOST_CANDIDATE, rest)?;
         Ok(GoalText::Cover(x as u8))
     } else {
         Err(LineFault::BadLine)
@@ -79,8 +86,8 @@ pub(crate) fn read_put(alloc: Global, line: &[u8]) -> Result<Result<Put, LineFau
     match rest.next() {
         None => Ok(Err(LineFault::BadLine)),
         Some(field) => {
-            let first = number(0, 1_000_000, field.text);
-            let others = any_numbers(CandList::new(alloc), 0, 255, &mut rest)?;
+            let first = number(0, MOST_BALLOTS, field.text);
+            let others = any_numbers(CandList::new(alloc), 0, MOST_CANDIDATE, &mut rest)?;
             match both(first, others) {
                 Ok((number, ballot)) => Ok(Ok(Put {
                     number: number as u32,

@@ -1,4 +1,4 @@
-use Rattle.cert_text.proofs.Limits.{fits_halves}
+use Rattle.cert_text.proofs.Fitting.{fits_halves}
 use Rattle.cert_text.proofs.tree_limits.+trees.Goals as goal
 
 pub tree_fits-returns-then-branch_fits : goal.tree_fits-returns-then-branch_fits

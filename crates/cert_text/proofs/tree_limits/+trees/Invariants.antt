@@ -2,7 +2,7 @@ use Rattle.std.proofs.Common.{◌+◌, ◌*◌, take}
 use Rattle.std.specs.Prelude.{All, sum_by}
 use Rattle.bound_tree.specs.Nodes.{size}
 use Rattle.bound_tree.specs.Plain.{plain_of}
-use Rattle.cert_text.proofs.Limits.{TreeFits}
+use Rattle.cert_text.proofs.Fitting.{TreeFits}
 use Rattle.cert_text.proofs.tree_limits.+trees.Given as goal
 
 abbrev pub decreases-tree_fits : goal.decreases-tree_fits
