@@ -1,3 +1,5 @@
-pub mod Margins
 pub mod Outcomes
+pub mod Margins
 pub mod Pairs
+pub mod Goals
+pub mod Races

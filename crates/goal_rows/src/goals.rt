@@ -2,8 +2,11 @@
 ghost use Rattle.std.specs.Prelude.{◌≡◌, IfOk};
 
 use ballot_form::Cand;
-use mov_base::{Copies, Memory};
+use mov_base::{Copies, List, Memory};
 use std::alloc::Global;
+
+/// A list of goals.
+pub type GoalList = List<Goal>;
 
 /// What replacements are to reach so that the outcome turns.
 #[derive(Debug, Drop)]

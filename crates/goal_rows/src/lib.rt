@@ -6,15 +6,22 @@
 #![tactic(auto)]
 
 mod goals;
+mod grounds;
 mod laws;
 mod outcomes;
+pub mod parts;
+mod races;
+mod rows;
 
-pub use goals::Goal;
+pub use goals::{Goal, GoalList};
+pub use grounds::ground;
 pub use laws::{
     a_margin_is_one_number, a_reported_outcome_is_one, plurality_turns_where_a_challenger_is_level,
     replacements_bring_at_most_the_largest_gains,
 };
 pub use outcomes::reported;
+pub use races::{cover, is_complete, kid_count, race};
+pub use rows::rows_hold;
 
 #[cfg(test)]
 mod tests;

@@ -12,7 +12,7 @@ use Rattle.exact_num.specs.Divisors.{row_gcd, primitive, IsPrimitive}
 use Rattle.exact_num.proofs.Divisors.{primitive_entry, primitive_lowest, zero_fold}
 use Rattle.exact_num.proofs.Ring.{leaf, times, same}
 use Rattle.row_program.specs.Forms.{Table, row_of, entry, basic_of, tableau, combination, eliminated, turned, next_row, map_from, next_form, first_large, first_large_of, Holds, IsSolved, IsReduced}
-use Rattle.pivot_form.specs.Invariant.{IsEquation, IsForm, row_lists}
+use Rattle.pivot_form.specs.Invariant.{IsEquation, IsShaped, IsForm, row_lists}
 use Rattle.pivot_form.proofs.Sums.{positive_product, zero_times}
 use Rattle.pivot_form.proofs.Equations.{length-combination, get_or-combination, turned_by, IsTurned, length-map_from, get_or-map_from, small_rows_from_none, all_at, row_lists-get, row_lists-set, length-row_lists, map_front_from, get_or-map_front_from, map_front_from_more, map_from_drop, rows_past, rows_here}
 use Rattle.pivot_form.proofs.Pivots.{IsPivot, next_holds, before_holds, next_solved}
@@ -37,18 +37,22 @@ new_lead t r c h = get_or-map_from (next_row r c (lead_of t r c)) 0 t.rows r r [
 pub new_row : (t : Table) (r c i : ℕ) → i < length t.rows → i ≢ r → row_of (next_form t r c) i ≡ primitive (mixed t r c i)
 new_row t r c i h apart = get_or-map_from (next_row r c (lead_of t r c)) 0 t.rows i i [] h (omega arith) ∙ next_row_off r c (lead_of t r c) i (row_of t i) apart
 
-pub width_of : (t : Table) (i : ℕ) → IsForm t → i < length t.rows → length (row_of t i) ≡ t.variables + 1
-width_of t i form h = let equation = form.equations i [] h in equation.width
+pub shape_of : (t : Table) → IsForm t → IsShaped t
+shape_of t form = record {
+  widths = λ i h. let equation = form.equations i [] h in equation.width;
+  basics = form.basics;
+  solved = form.solved;
+}
 
-module _ (t : Table) (r c : ℕ) (form : IsForm t) (within : r < length t.rows) (lt : c < t.variables) (s : ℤ) (is : IsTurned c (row_of t r) s) (above : pos 0 <ℤ get_or (lead_of t r c) c (pos 0)) where
+module _ (t : Table) (r c : ℕ) (form : IsShaped t) (within : r < length t.rows) (lt : c < t.variables) (s : ℤ) (is : IsTurned c (row_of t r) s) (above : pos 0 <ℤ get_or (lead_of t r c) c (pos 0)) where
   lead_width : (i : ℕ) → i < length t.rows → length (lead_of t r c) ≡ length (row_of t i)
-  lead_width i h = is.width ∙ width_of t r form within ∙ sym (width_of t i form h)
+  lead_width i h = is.width ∙ form.widths r within ∙ sym (form.widths i h)
 
   mixed_width : (i : ℕ) → i < length t.rows → length (mixed t r c i) ≡ t.variables + 1
-  mixed_width i h = length-combination (get_or (lead_of t r c) c (pos 0)) (entry t i c) (row_of t i) (lead_of t r c) (lead_width i h) ∙ width_of t i form h
+  mixed_width i h = length-combination (get_or (lead_of t r c) c (pos 0)) (entry t i c) (row_of t i) (lead_of t r c) (lead_width i h) ∙ form.widths i h
 
   mixed_entry : (i j : ℕ) → i < length t.rows → j < t.variables + 1 → get_or (mixed t r c i) j (pos 0) ≡ get_or (lead_of t r c) c (pos 0) *ℤ entry t i j -ℤ entry t i c *ℤ get_or (lead_of t r c) j (pos 0)
-  mixed_entry i j h l = get_or-combination (get_or (lead_of t r c) c (pos 0)) (entry t i c) (row_of t i) (lead_of t r c) j (pos 0) (lead_width i h) (omega (arith, l, width_of t i form h))
+  mixed_entry i j h l = get_or-combination (get_or (lead_of t r c) c (pos 0)) (entry t i c) (row_of t i) (lead_of t r c) j (pos 0) (lead_width i h) (omega (arith, l, form.widths i h))
 
   mixed_gcd : (i : ℕ) → i < length t.rows → i ≢ r → 0 < row_gcd (mixed t r c i)
   mixed_gcd i h apart =
@@ -89,31 +93,31 @@ module _ (t : Table) (r c : ℕ) (form : IsForm t) (within : r < length t.rows) 
     basic = λ i h apart. get_or-set_other t.basis r i c 0 apart;
   }
 
-  lead_primitive : IsPrimitive (lead_of t r c)
-  lead_primitive d all = let equation = form.equations r [] within in equation.primitive d (all_at (λ x. d ∣ unsigned_abs x) (row_of t r) (λ k l. subst (λ (n : ℕ). d ∣ n) (is.sizes k) (all k (pos 0) (omega (arith, l, is.width)))))
+  lead_primitive : IsPrimitive (row_of t r) → IsPrimitive (lead_of t r c)
+  lead_primitive reduced d all = reduced d (all_at (λ x. d ∣ unsigned_abs x) (row_of t r) (λ k l. subst (λ (n : ℕ). d ∣ n) (is.sizes k) (all k (pos 0) (omega (arith, l, is.width)))))
 
-  reduced_row : (k : ℕ) (row : List ℤ) → k < length t.rows → row ≡ row_of t k → (length (next_row r c (lead_of t r c) k row) ≡ t.variables + 1) × IsPrimitive (next_row r c (lead_of t r c) k row)
-  reduced_row k row h e =
+  reduced_row : IsPrimitive (row_of t r) → (k : ℕ) (row : List ℤ) → k < length t.rows → row ≡ row_of t k → (length (next_row r c (lead_of t r c) k row) ≡ t.variables + 1) × IsPrimitive (next_row r c (lead_of t r c) k row)
+  reduced_row reduced k row h e =
       ⊎_elim
       (λ (at : k ≡ r).
       let there = next_row_at r c (lead_of t r c) k row at in
-      subst (λ (x : List ℤ). (length x ≡ t.variables + 1) × IsPrimitive x) (sym there) (is.width ∙ width_of t r form within, lead_primitive))
+      subst (λ (x : List ℤ). (length x ≡ t.variables + 1) × IsPrimitive x) (sym there) (is.width ∙ form.widths r within, lead_primitive reduced))
       (λ apart.
       let there : next_row r c (lead_of t r c) k row ≡ primitive (mixed t r c k) = next_row_off r c (lead_of t r c) k row apart ∙ ap (λ (x : List ℤ). eliminated c x (lead_of t r c)) e in
       subst (λ (x : List ℤ). (length x ≡ t.variables + 1) × IsPrimitive x) (sym there) (length-map (mixed t r c k) _ ∙ mixed_width k h, primitive_lowest (mixed t r c k) (mixed_gcd k h apart)))
       (cases_eq k r)
 
-  pub is_reduced : IsReduced (next_form t r c)
-  is_reduced k d h =
+  pub is_reduced : IsPrimitive (row_of t r) → IsReduced (next_form t r c)
+  is_reduced reduced k d h =
       let inside : k < length t.rows = omega (arith, h, length-map_from (next_row r c (lead_of t r c)) 0 t.rows) in
       subst (λ (x : List ℤ). (length x ≡ t.variables + 1) × IsPrimitive x) (sym (get_or-map_from (next_row r c (lead_of t r c)) 0 t.rows k k d inside (omega arith)))
-      (reduced_row k (get_or t.rows k d) inside (get_or_default t.rows k d [] inside))
+      (reduced_row reduced k (get_or t.rows k d) inside (get_or_default t.rows k d [] inside))
 
 -- ---- what a pivot promises of the next form
 pub solutions_kept : (t : Table) (r c : ℕ) → IsForm t → r < length t.rows → c < t.variables → entry t r c ≢ pos 0 → (y : ℕ → ℤ) (d : ℤ) → Holds (tableau (next_form t r c)) y d ↔ Holds (tableau t) y d
 solutions_kept t r c form within lt apart y d =
     let by = turned_by c (row_of t r) apart in
-    let pivot = is_pivot t r c form within lt by.0 by.1 by.2 in (
+    let pivot = is_pivot t r c (shape_of t form) within lt by.0 by.1 by.2 in (
       before_holds (tableau t) (tableau (next_form t r c)) r c (λ j. get_or (lead_of t r c) j (pos 0)) (get_or (lead_of t r c) t.variables (pos 0)) by.0 (λ i. pos (row_gcd (mixed t r c i))) y d pivot within,
       next_holds (tableau t) (tableau (next_form t r c)) r c (λ j. get_or (lead_of t r c) j (pos 0)) (get_or (lead_of t r c) t.variables (pos 0)) by.0 (λ i. pos (row_gcd (mixed t r c i))) y d pivot within,
     )
@@ -121,10 +125,10 @@ solutions_kept t r c form within lt apart y d =
 pub solved_next : (t : Table) (r c : ℕ) → IsForm t → r < length t.rows → c < t.variables → entry t r c ≢ pos 0 → IsSolved (tableau (next_form t r c))
 solved_next t r c form within lt apart =
     let by = turned_by c (row_of t r) apart in
-    next_solved (tableau t) (tableau (next_form t r c)) r c (λ j. get_or (lead_of t r c) j (pos 0)) (get_or (lead_of t r c) t.variables (pos 0)) by.0 (λ i. pos (row_gcd (mixed t r c i))) (is_pivot t r c form within lt by.0 by.1 by.2) form.solved lt within
+    next_solved (tableau t) (tableau (next_form t r c)) r c (λ j. get_or (lead_of t r c) j (pos 0)) (get_or (lead_of t r c) t.variables (pos 0)) by.0 (λ i. pos (row_gcd (mixed t r c i))) (is_pivot t r c (shape_of t form) within lt by.0 by.1 by.2) form.solved lt within
 
 pub reduced_next : (t : Table) (r c : ℕ) → IsForm t → r < length t.rows → c < t.variables → entry t r c ≢ pos 0 → IsReduced (next_form t r c)
-reduced_next t r c form within lt apart = let by = turned_by c (row_of t r) apart in is_reduced t r c form within lt by.0 by.1 by.2
+reduced_next t r c form within lt apart = let by = turned_by c (row_of t r) apart in is_reduced t r c (shape_of t form) within lt by.0 by.1 by.2 (let equation = form.equations r [] within in equation.primitive)
 
 pub next_is_form : (t : Table) (r c : ℕ) → IsForm t → r < length t.rows → c < t.variables → entry t r c ≢ pos 0 → first_large_of (next_form t r c).rows ≡ None → IsForm (next_form t r c)
 next_is_form t r c form within lt apart none = record {

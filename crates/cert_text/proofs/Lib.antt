@@ -1,0 +1,15 @@
+mod Growing
+mod Numbers
+mod Choices
+mod Lines
+mod Cutting
+mod Forms
+mod Shapes
+mod Trees
+mod HeadForms
+mod OutcomeForms
+mod TurnForms
+mod Whole
+mod Answering
+mod Writing
+mod Fitting

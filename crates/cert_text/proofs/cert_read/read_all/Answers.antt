@@ -1,0 +1,6 @@
+use Rattle.bound_tree.specs.Plain.{plain_of}
+use Rattle.cert_text.proofs.Trees.{few_nodes}
+use Rattle.cert_text.proofs.cert_read.read_all.Goals as goal
+
+pub from_tree-requires-clause-few : goal.from_tree-requires-clause-few
+from_tree-requires-clause-few c = few_nodes (c.read_body.new.reader.number, c.read_body.new.reader.rest.now) (c.read_node.new.reader.number, c.read_node.new.reader.rest.now) (plain_of c.in_ok-tree.tree) c.in_ok-tree.ensures.node

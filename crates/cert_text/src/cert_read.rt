@@ -1,0 +1,168 @@
+// Reading a certificate.
+ghost use Rattle.std.specs.Prelude.{◌≡◌, ◌<◌, ◌≤◌, ◌+◌, ◌^◌, OnOk, IfOk, Ok};
+ghost use Rattle.cert_words.specs.Words.{fields_of};
+ghost use Rattle.cert_text.specs.Reading.{Gives, Answers, form_at, many_at};
+ghost use Rattle.cert_text.specs.HeadLines.{reported_line, goal_line, put_line, puts_of};
+ghost use Rattle.cert_text.specs.CertReading.{turn_at, body_at, cert_at};
+ghost use Rattle.cert_text.specs.CertText.{CertText};
+ghost use Rattle.cert_text.specs.declared.cert.Cert.{Cert};
+
+use crate::cert::{Cert, Claim, GoalText};
+use crate::fault::{CertFault, CertKind, ReadError};
+use crate::head_line::{read_claim, read_first, read_reported, read_rule, read_size};
+use crate::reader::{Reader, at_number, fault};
+use crate::tree_read::read_node;
+use crate::turn_line::{read_goal, read_put};
+use alteration_model::{Put, PutList};
+use ballot_form::{Outcome, Rule};
+use bound_tree::{BoundTree, MOST_DEPTH};
+use std::alloc::Global;
+
+/// The certificate that a text is, or the first fault of the text with its line. The text is read once, line by line, and
+/// not copied.
+#[tactic(auto, using(crate::proofs::Answering::or_memory))]
+pub fn read_cert(alloc: Global, text: &[u8]) -> Result<Cert, CertFault>
+    // What is read has this text.
+    ensures found { IfOk result (λ cert. CertText text.now cert) }
+    // What has this text is read, unless memory runs out.
+    ensures only { (cert : Cert) → CertText text.now cert → Answers result (Ok cert) }
+    // Which fault it is, and in which line.
+    ensures exact { Answers result (cert_at text.now) }
+{
+    match read_all(alloc, text) {
+        Ok(cert) => Ok(cert),
+        Err(ReadError::Fault(fault)) => Err(fault),
+        Err(ReadError::Memory) => Err(CertFault {
+            kind: CertKind::Memory,
+            line: 0,
+        }),
+    }
+}
+
+/// Reads all lines.
+#[tactic(auto, using(crate::proofs::Trees::shallow), unfolding(crate::specs::CertReading::cert_at))]
+fn read_all(alloc: Global, text: &[u8]) -> Result<Cert, ReadError>
+    ensures { Gives (λ x. x) result (cert_at text.now) }
+{
+    let mut reader = Reader {
+        rest: text,
+        number: 1,
+    };
+    let line = reader.line()?;
+    at_number(1, read_first(line))?;
+    let line = reader.line()?;
+    let rule = at_number(2, read_rule(line))?;
+    let line = reader.line()?;
+    let (c, ballots) = at_number(3, read_size(line))?;
+    let reported = next_reported(alloc, rule, c, &mut reader)?;
+    let line = reader.line()?;
+    let claim = at_number(5, read_claim(line))?;
+    let (goal, puts) = read_body(alloc, c, claim, &mut reader)?;
+    let tree = read_node(alloc, MOST_DEPTH, reader.number, &mut reader)?;
+    if !reader.rest.is_empty() {
+        return Err(fault(CertKind::Tail, reader.number));
+    }
+    Ok(Cert {
+        rule,
+        c,
+        ballots,
+        reported,
+        claim,
+        goal,
+        puts,
+        tree: BoundTree::from_tree(alloc, tree),
+    })
+}
+
+/// The next line, which tells the reported outcome.
+fn next_reported(
+    alloc: Global,
+    rule: Rule,
+    c: u8,
+    reader: &mut Reader<'_>,
+) -> Result<Outcome, ReadError>
+    requires { reader.old.number + 1 < 2 ^ 32 }
+    ensures reported { Gives (λ x. (x, (reader.new.number, reader.new.rest.now))) result (form_at (λ l. reported_line rule c (fields_of l)) (reader.old.number, reader.old.rest.now)) }
+    ensures number { OnOk result (reader.new.number ≡ reader.old.number + 1) }
+{
+    let number = reader.number;
+    let line = reader.line()?;
+    let reported = read_reported(alloc, rule, c, line)?;
+    at_number(number, reported)
+}
+
+/// The goal and the replacements of a claim.
+#[tactic(auto, unfolding(crate::specs::CertReading::body_at))]
+fn read_body(
+    alloc: Global,
+    c: u8,
+    claim: Claim,
+    reader: &mut Reader<'_>,
+) -> Result<(Option<GoalText>, PutList), ReadError>
+    requires number { reader.old.number ≤ 6 }
+    requires few { puts_of claim ≤ 1000000 }
+    ensures body { Gives (λ x. (x, (reader.new.number, reader.new.rest.now))) result (body_at c claim (reader.old.number, reader.old.rest.now)) }
+    ensures number { OnOk result (reader.new.number < 2 ^ 21) }
+{
+    match claim {
+        Claim::Fixed => Ok((None, PutList::new(alloc))),
+        Claim::Margin(k) => read_turn(alloc, c, k, reader),
+        Claim::Bounds { up, .. } => read_turn(alloc, c, up, reader),
+    }
+}
+
+/// A goal and so many replacements.
+#[tactic(auto, unfolding(crate::specs::CertReading::turn_at))]
+fn read_turn(
+    alloc: Global,
+    c: u8,
+    count: u32,
+    reader: &mut Reader<'_>,
+) -> Result<(Option<GoalText>, PutList), ReadError>
+    requires number { reader.old.number ≤ 6 }
+    requires few { count ≤ 1000000 }
+    ensures turn { Gives (λ x. (x, (reader.new.number, reader.new.rest.now))) result (turn_at c count (reader.old.number, reader.old.rest.now)) }
+    ensures number { OnOk result (reader.new.number < 2 ^ 21) }
+{
+    let goal = next_goal(alloc, c, reader)?;
+    let puts = read_puts(alloc, count, reader)?;
+    Ok((Some(goal), puts))
+}
+
+/// The next line, which tells the goal.
+fn next_goal(alloc: Global, c: u8, reader: &mut Reader<'_>) -> Result<GoalText, ReadError>
+    requires { reader.old.number + 1 < 2 ^ 32 }
+    ensures goal { Gives (λ x. (x, (reader.new.number, reader.new.rest.now))) result (form_at (λ l. goal_line c (fields_of l)) (reader.old.number, reader.old.rest.now)) }
+    ensures number { OnOk result (reader.new.number ≡ reader.old.number + 1) }
+{
+    let number = reader.number;
+    let line = reader.line()?;
+    let goal = read_goal(alloc, c, line)?;
+    at_number(number, goal)
+}
+
+/// So many replacements.
+fn read_puts(alloc: Global, count: u32, reader: &mut Reader<'_>) -> Result<PutList, ReadError>
+    requires { reader.old.number + count < 2 ^ 32 }
+    ensures puts { Gives (λ xs. (xs, (reader.new.number, reader.new.rest.now))) result (many_at (form_at (λ l. put_line (fields_of l))) count (reader.old.number, reader.old.rest.now)) }
+    ensures number { OnOk result (reader.new.number ≡ reader.old.number + count) }
+{
+    let mut puts = PutList::new(alloc);
+    for _ in 0..count {
+        let put = next_put(alloc, reader)?;
+        puts.push(put)?;
+    }
+    Ok(puts)
+}
+
+/// The next line, which tells a replacement.
+fn next_put(alloc: Global, reader: &mut Reader<'_>) -> Result<Put, ReadError>
+    requires { reader.old.number + 1 < 2 ^ 32 }
+    ensures put { Gives (λ x. (x, (reader.new.number, reader.new.rest.now))) result (form_at (λ l. put_line (fields_of l)) (reader.old.number, reader.old.rest.now)) }
+    ensures number { OnOk result (reader.new.number ≡ reader.old.number + 1) }
+{
+    let number = reader.number;
+    let line = reader.line()?;
+    let put = read_put(alloc, line)?;
+    at_number(number, put)
+}

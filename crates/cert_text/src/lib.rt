@@ -1,0 +1,36 @@
+//! Certificates as text, in both directions.
+//!
+//! A certificate says what is claimed of a contest, the goal and the replacements that turn its outcome, and the tree of bounds
+//! by which fewer don't. The grammar is a relation between bytes and certificates (`specs/CertText.antt`). The crate promises
+//! that `read_cert` answers the certificate exactly where the text is in the grammar, and otherwise the first fault with its
+//! line; that `print_cert` writes the text of a certificate within the limits; that one text has one certificate and one
+//! certificate one text. It stands on the rules and outcomes of `ballot_form`, the replacements of `alteration_model`, the
+//! trees of `bound_tree` and the lines of `cert_words`.
+#![tactic(auto)]
+
+mod cert;
+mod cert_read;
+mod fault;
+mod head_line;
+mod laws;
+mod limits;
+mod line_write;
+mod printable;
+mod reader;
+mod tree_limits;
+mod tree_line;
+mod tree_read;
+mod tree_write;
+mod turn_line;
+mod write;
+
+pub use cert::{Cert, Claim, GoalText, Stop};
+pub use cert_read::read_cert;
+pub use cert_words::{fields, parts};
+pub use fault::{CertFault, CertKind};
+pub use laws::a_certificate_has_one_text;
+pub use printable::is_printable;
+pub use write::print_cert;
+
+#[cfg(test)]
+mod tests;

@@ -1,0 +1,126 @@
+// Writing a certificate.
+ghost use Rattle.std.specs.Prelude.{◌≡◌, ◌++◌, ◌∷◌, [], map, codes, decimal, OnOk, IfOk};
+ghost use Rattle.cert_text.specs.CertText.{line_text, rule_words, outcome_words, stop_words, claim_words, put_words, goal_words, puts_text, cert_text, IsPrintable, CertText};
+
+use crate::cert::{Cert, Claim, GoalText, Stop};
+use crate::line_write::{push_list, push_number, push_numbers, push_one, push_two};
+use crate::tree_write::push_tree;
+use alteration_model::Put;
+use ballot_form::{Outcome, Rule};
+use mov_base::Memory;
+use std::alloc::Global;
+
+/// The text of a certificate that is within the limits of the grammar.
+#[tactic(auto, using(bound_tree::proofs::Laws::size_some))]
+pub fn print_cert(alloc: Global, cert: &Cert) -> Result<Vec<u8>, Memory>
+    requires printable { IsPrintable cert.now }
+    ensures text { IfOk result (λ bytes. CertText bytes.items cert.now) }
+{
+    let mut out = Vec::new(alloc);
+    out.extend_from_slice(b"movcert 1\n")?;
+    push_rule(&mut out, cert.rule)?;
+    push_two(
+        &mut out,
+        b"size",
+        u64::from(cert.c),
+        u64::from(cert.ballots),
+    )?;
+    push_reported(&mut out, &cert.reported)?;
+    push_claim(&mut out, cert.claim)?;
+    if let Some(goal) = &cert.goal {
+        push_goal(&mut out, goal)?;
+    }
+    push_puts(&mut out, cert.puts.as_slice())?;
+    push_tree(&mut out, cert.tree.at(0))?;
+    Ok(out)
+}
+
+/// Adds the line of the rule.
+fn push_rule(out: &mut Vec<u8>, rule: Rule) -> Result<(), Memory>
+    ensures { OnOk result (out.new.items ≡ out.old.items ++ line_text (rule_words rule)) }
+{
+    match rule {
+        Rule::Plurality => out.extend_from_slice(b"rule plurality\n")?,
+        Rule::Borda => out.extend_from_slice(b"rule borda\n")?,
+        Rule::Condorcet => out.extend_from_slice(b"rule condorcet\n")?,
+        Rule::Irv => out.extend_from_slice(b"rule irv\n")?,
+        Rule::Dhondt(seats) => push_one(out, b"rule dhondt", u64::from(seats))?,
+    }
+    Ok(())
+}
+
+/// Adds the line of the reported outcome.
+fn push_reported(out: &mut Vec<u8>, reported: &Outcome) -> Result<(), Memory>
+    ensures { OnOk result (out.new.items ≡ out.old.items ++ line_text (outcome_words reported.now)) }
+{
+    match reported {
+        Outcome::Winner(x) => push_one(out, b"reported", u64::from(*x))?,
+        Outcome::NoWinner => out.extend_from_slice(b"reported none\n")?,
+        Outcome::Seats(seats) => push_list(out, b"reported", seats.as_slice())?,
+    }
+    Ok(())
+}
+
+/// Adds the line of the claim.
+fn push_claim(out: &mut Vec<u8>, claim: Claim) -> Result<(), Memory>
+    ensures { OnOk result (out.new.items ≡ out.old.items ++ line_text (claim_words claim)) }
+{
+    match claim {
+        Claim::Margin(k) => push_one(out, b"margin", u64::from(k))?,
+        Claim::Fixed => out.extend_from_slice(b"fixed\n")?,
+        Claim::Bounds { low, up, stop } => push_bounds(out, low, up, stop)?,
+    }
+    Ok(())
+}
+
+/// Adds the line of two bounds.
+fn push_bounds(out: &mut Vec<u8>, low: u32, up: u32, stop: Stop) -> Result<(), Memory>
+    ensures { OnOk result (out.new.items ≡ out.old.items ++ line_text (codes "bounds" ∷ decimal low ∷ decimal up ∷ stop_words stop)) }
+{
+    out.extend_from_slice(b"bounds")?;
+    push_number(out, low)?;
+    push_number(out, up)?;
+    match stop {
+        Stop::Budget(nodes) => push_one(out, b" budget", u64::from(nodes))?,
+        Stop::Depth => out.extend_from_slice(b" depth\n")?,
+    }
+    Ok(())
+}
+
+/// Adds the line of the goal.
+#[tactic(auto, using(crate::proofs::Writing::order_line))]
+fn push_goal(out: &mut Vec<u8>, goal: &GoalText) -> Result<(), Memory>
+    ensures { OnOk result (out.new.items ≡ out.old.items ++ line_text (goal_words goal.now)) }
+{
+    match goal {
+        GoalText::Order(order) => push_list(out, b"goal order", order.as_slice()),
+        GoalText::Pair(gainer, loser) => push_two(
+            out,
+            b"goal pair",
+            u64::from(*gainer),
+            u64::from(*loser),
+        ),
+        GoalText::Cover(x) => push_one(out, b"goal cover", u64::from(*x)),
+    }
+}
+
+/// Adds the lines of the replacements.
+fn push_puts(out: &mut Vec<u8>, puts: &[Put]) -> Result<(), Memory>
+    ensures { OnOk result (out.new.items ≡ out.old.items ++ puts_text puts.now) }
+{
+    for put in puts {
+        push_put(out, put)?;
+    }
+    Ok(())
+}
+
+/// Adds the line of a replacement.
+fn push_put(out: &mut Vec<u8>, put: &Put) -> Result<(), Memory>
+    ensures { OnOk result (out.new.items ≡ out.old.items ++ line_text (put_words put.now)) }
+{
+    out.extend_from_slice(b"put")?;
+    push_number(out, put.number)?;
+    push_numbers(out, put.ballot.as_slice())?;
+    out.push(b'\n')?;
+    Ok(())
+}

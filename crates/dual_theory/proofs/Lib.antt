@@ -1,0 +1,20 @@
+pub mod Lex
+pub mod Sums
+pub mod Tests
+pub mod Directions
+pub mod Orders
+pub mod Found
+pub mod Chosen
+pub mod Values
+pub mod First
+pub mod Runs
+pub mod Rising
+pub mod Falling
+pub mod Multiples
+pub mod Bridges
+pub mod Best
+pub mod Unique
+pub mod Shown
+pub mod Wide
+pub mod Ending
+mod Examples

@@ -1,0 +1,5 @@
+pub mod Values
+pub mod Runs
+pub mod Measures
+pub mod Ends
+pub mod Multipliers

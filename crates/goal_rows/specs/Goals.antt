@@ -1,0 +1,73 @@
+-- Goals and their rows. A row gives each ballot a whole weight, and holds on a list of ballots where the sum of the weights is at
+-- least 0. The outcome turns exactly where all rows of some complete goal hold after the replacements.
+use Rattle.std.specs.Prelude.{ℕ, ◌+◌, ◌==◌, List, [], ◌∷◌, ◌++◌, Contains, All, Option, Some, None, if◌then◌else◌, slice_index, ℤ, pos, ◌-ℤ◌, ◌≤ℤ◌}
+use Rattle.std.proofs.Common.{zero, suc}
+use Rattle.mov_base.specs.Sums.{sum_z}
+use Rattle.ballot_form.specs.Scores.{borda_points, is_first, plurality_points}
+use Rattle.ballot_form.specs.declared.outcome.Outcome.{Outcome}
+use Rattle.ballot_form.specs.declared.outcome.Outcome.TheVariants.{Winner, NoWinner, Seats}
+use Rattle.ballot_form.specs.declared.rule.Rule.{Rule}
+use Rattle.ballot_form.specs.declared.rule.Rule.TheVariants.{Plurality, Borda, Condorcet, Dhondt, Irv}
+use Rattle.condorcet_count.specs.Preferences.{prefers}
+use Rattle.goal_rows.specs.declared.goals.Goal.{Goal}
+use Rattle.goal_rows.specs.declared.goals.Goal.TheVariants.{Root, Pair}
+
+-- the seats of a candidate in an outcome
+abbrev pub seats_in : Outcome → ℕ → ℕ
+seats_in (Winner x) a = 0
+seats_in NoWinner a = 0
+seats_in (Seats shares) a = slice_index shares a
+
+-- what a ballot counts for the gainer g of a pair with the loser l, of c candidates, with this reported outcome
+abbrev pub gainer_points : Rule → ℕ → Outcome → ℕ → ℕ → List ℕ → ℕ
+gainer_points Plurality c reported g l row = plurality_points row g
+gainer_points Borda c reported g l row = borda_points c row g
+gainer_points Condorcet c reported g l row = if prefers row g l then 1 else 0
+gainer_points (Dhondt seats) c reported g l row = if is_first row g then seats_in reported l else 0
+gainer_points Irv c reported g l row = 0
+
+-- and what it counts for the loser
+abbrev pub loser_points : Rule → ℕ → Outcome → ℕ → ℕ → List ℕ → ℕ
+loser_points Plurality c reported g l row = plurality_points row l
+loser_points Borda c reported g l row = borda_points c row l
+loser_points Condorcet c reported g l row = if prefers row l g then 1 else 0
+loser_points (Dhondt seats) c reported g l row = if is_first row l then seats_in reported g + 1 else 0
+loser_points Irv c reported g l row = 0
+
+-- the weight that a pair's row gives a ballot
+abbrev pub pair_weight : Rule → ℕ → Outcome → ℕ → ℕ → List ℕ → ℤ
+pair_weight rule c reported g l row = pos (gainer_points rule c reported g l row) -ℤ pos (loser_points rule c reported g l row)
+
+-- the rows of a goal
+abbrev pub rows_of : Rule → ℕ → Outcome → Goal → List (List ℕ → ℤ)
+rows_of rule c reported Root = []
+rows_of rule c reported (Pair g l) = pair_weight rule c reported g l ∷ []
+
+-- all rows hold on the ballots
+abbrev pub Holds : List (List ℕ → ℤ) → List (List ℕ) → Type 0
+Holds weights rows = All (λ weight. pos 0 ≤ℤ sum_z weight rows) weights
+
+-- the pairs with x of each other candidate below c, ascending
+abbrev pub pairs_below : ℕ → ℕ → List Goal
+pairs_below zero x = []
+pairs_below (suc c) x = pairs_below c x ++ (if c == x then [] else Pair c x ∷ [])
+
+-- the goals below the root. Under plurality they are the pairs of each other candidate, ascending, with the reported winner
+abbrev pub root_goals : Rule → ℕ → Outcome → List Goal
+root_goals Plurality c (Winner x) = pairs_below c x
+root_goals rule c reported = []
+
+-- the goals that a goal is split into, where it has a cover: one of them holds where it holds on the way to a complete goal
+abbrev pub cover_of : List Goal → Goal → Option (List Goal)
+cover_of roots Root = Some roots
+cover_of roots (Pair g l) = None
+
+-- the outcome turns where such a goal holds: it is one of the root's, and has no cover of its own
+abbrev pub IsComplete : List Goal → Goal → Type 0
+IsComplete roots Root = ⊥
+IsComplete roots (Pair g l) = Contains roots (Pair g l)
+
+-- a goal that is the root or reached from it through covers
+abbrev pub IsReached : List Goal → Goal → Type 0
+IsReached roots Root = Unit {0}
+IsReached roots (Pair g l) = Contains roots (Pair g l)

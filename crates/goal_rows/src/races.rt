@@ -1,0 +1,117 @@
+// Contests under a rule, and the goals of one.
+ghost use Rattle.std.specs.Prelude.{◌≡◌, ◌↔◌, ℕ, List, length, option_map, Contains, IfOk, IsTrue};
+ghost use Rattle.ballot_form.specs.Alterations.{after};
+ghost use Rattle.ballot_form.specs.declared.rule.Rule.TheVariants.{Plurality};
+ghost use Rattle.goal_rows.specs.Goals.{Holds, IsComplete, cover_of, pairs_below, root_goals, rows_of};
+ghost use Rattle.goal_rows.specs.Margins.{Turns};
+ghost use Rattle.goal_rows.specs.Races.{IsRace};
+ghost use Rattle.goal_rows.specs.declared.goals.Goal.{Goal as AGoal};
+ghost use Rattle.goal_rows.specs.declared.goals.Goal.TheVariants.{Pair};
+
+use crate::goals::{Goal, GoalList};
+use crate::outcomes::reported;
+use crate::parts::Race;
+use ballot_form::{Cand, Outcome, Roll, Rule};
+use mov_base::Memory;
+use signature_class::kinds;
+use std::alloc::Global;
+
+/// The contest under the rule: its kinds of ballots, the reported outcome, and the root goals. Under plurality these are the pairs of
+/// each other candidate, ascending, with the reported winner.
+pub fn race<'a>(alloc: Global, rule: Rule, roll: &'a Roll) -> Result<Race<'a>, Memory>
+    requires plurality { rule ≡ Plurality }
+    ensures rule { IfOk result (λ race. race.rule ≡ rule) }
+    ensures roll { IfOk result (λ race. race.roll.now ≡ roll.now) }
+    ensures race { IfOk result (λ race. IsRace rule roll.now race.kinds race.reported race.roots) }
+    // The outcome turns exactly where all rows of some complete goal hold after the replacements.
+    ensures turning { IfOk result (λ race. (changes : List (ℕ × List ℕ)) → Turns rule roll.now changes
+        ↔ ((goal : AGoal) × IsComplete race.roots goal × Holds (rows_of rule roll.now.c race.reported goal) (after roll.now changes).rows)) }
+{
+    let kinds = kinds(alloc, roll)?;
+    let reported = reported(alloc, rule, roll)?;
+    let roots = pairs_with(alloc, roll.candidates(), &reported)?;
+    Ok(Race {
+        rule,
+        roll,
+        kinds,
+        reported,
+        roots,
+    })
+}
+
+/// The pairs of each other candidate with the winner.
+fn pairs_with(alloc: Global, c: u8, reported: &Outcome) -> Result<GoalList, Memory>
+    ensures { IfOk result (λ roots. roots ≡ root_goals Plurality c reported.now) }
+{
+    match reported {
+        Outcome::Winner(x) => others(alloc, c, *x),
+        _ => Ok(GoalList::new(alloc)),
+    }
+}
+
+/// The pairs of each other candidate with this one.
+#[tactic(auto, using(crate::proofs::Roots::one_more, crate::proofs::Roots::none_more))]
+fn others(alloc: Global, c: u8, x: Cand) -> Result<GoalList, Memory>
+    ensures { IfOk result (λ roots. roots ≡ pairs_below c x) }
+{
+    let mut roots = GoalList::new(alloc);
+    for j in 0..c {
+        if j != x {
+            roots.push(Goal::Pair(j, x))?;
+        }
+    }
+    Ok(roots)
+}
+
+/// The goals that a goal is split into; none where it has no cover.
+pub fn cover(alloc: Global, race: &Race<'_>, goal: &Goal) -> Result<Option<GoalList>, Memory>
+    ensures { IfOk result (λ kids. kids ≡ cover_of race.now.roots goal.now) }
+{
+    let _ = alloc;
+    match goal {
+        Goal::Root => Ok(Some(race.roots.copy()?)),
+        Goal::Pair(_, _) => Ok(None),
+    }
+}
+
+/// How many goals a goal is split into; none where it has no cover. It takes no memory.
+pub fn kid_count(race: &Race<'_>, goal: &Goal) -> Option<usize>
+    ensures { result ≡ option_map length (cover_of race.now.roots goal.now) }
+{
+    match goal {
+        Goal::Root => Some(race.roots.len()),
+        Goal::Pair(_, _) => None,
+    }
+}
+
+/// Whether the outcome turns where all rows of the goal hold.
+pub fn is_complete(race: &Race<'_>, goal: &Goal) -> bool
+    ensures { IsTrue result ↔ IsComplete race.now.roots goal.now }
+{
+    match goal {
+        Goal::Root => false,
+        Goal::Pair(gainer, loser) => has_pair(race.roots.as_slice(), *gainer, *loser),
+    }
+}
+
+/// Whether the pair is among the goals.
+fn has_pair(goals: &[Goal], gainer: Cand, loser: Cand) -> bool
+    ensures { IsTrue result ↔ Contains goals.now (Pair gainer loser) }
+{
+    for goal in goals {
+        if is_pair(goal, gainer, loser) {
+            return true;
+        }
+    }
+    false
+}
+
+/// Whether the goal is this pair.
+fn is_pair(goal: &Goal, gainer: Cand, loser: Cand) -> bool
+    ensures { IsTrue result ↔ (goal.now ≡ Pair gainer loser) }
+{
+    match goal {
+        Goal::Root => false,
+        Goal::Pair(g, l) => *g == gainer && *l == loser,
+    }
+}

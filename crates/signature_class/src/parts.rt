@@ -1,0 +1,89 @@
+// The kinds of a roll, named by its module since a function has the same letters.
+ghost use Rattle.std.specs.Prelude.{◌≡◌, ◌≤◌, ◌+◌, ◌<◌, [], length, slice_index_or, OnOk, OnErr};
+ghost use Rattle.std.specs.Str.{bytes_eq};
+ghost use Rattle.signature_class.specs.Classes.{IsClassList, add_class, count_of};
+
+use ballot_form::Cand;
+use indexmap::IndexMap;
+use mov_base::Memory;
+use std::alloc::Global;
+use std::marker::Model;
+
+/// The distinct ballots of a roll, borrowed from it, each with how many there are of it, in the order in which they are first seen.
+#[derive(Drop)]
+pub struct Kinds<'a> {
+    counts: IndexMap<&'a [Cand], u32>,
+}
+
+impl<'a> Model for Kinds<'a> {
+    ghost use Rattle.std.specs.Prelude.{List, ℕ};
+    ghost use Rattle.signature_class.specs.Classes.{seen};
+    ghost use Rattle.signature_class.specs.Classes.{IsClassList};
+
+    ghost Value = { List (List ℕ × ℕ) };
+
+    ghost view = { λ k. seen k.counts.entries };
+
+    ghost invariant = { λ k. IsClassList (seen k.counts.entries) };
+}
+
+impl<'a> Kinds<'a> {
+    /// No kinds.
+    pub(crate) fn new(alloc: Global) -> Kinds<'a>
+        ensures { result ≡ [] }
+    {
+        Kinds {
+            counts: IndexMap::new(alloc),
+        }
+    }
+
+    /// Counts a ballot.
+    #[tactic(auto, using(crate::proofs::Counts::inserted_row, crate::proofs::Counts::still_kinds))]
+    pub(crate) fn add(&mut self, row: &'a [Cand]) -> Result<(), Memory>
+        requires few { count_of bytes_eq row.now self.old + 1 ≤ 1000000 }
+        ensures added { OnOk result (self.new ≡ add_class bytes_eq row.now 1 self.old) }
+        ensures unchanged { OnErr result (self.new ≡ self.old) }
+    {
+        let before = self.counted(row);
+        self.counts.insert(row, before + 1)?;
+        Ok(())
+    }
+
+    /// How many of this ballot are counted.
+    #[tactic(auto, using(crate::proofs::Counts::looked_up_row))]
+    fn counted(&self, row: &[Cand]) -> u32
+        ensures { result ≡ count_of bytes_eq row.now self.now }
+    {
+        self.counts.get(row).copied().unwrap_or(0)
+    }
+
+    /// How many kinds there are.
+    pub fn len(&self) -> usize
+        ensures value { result ≡ length self.now }
+        ensures classes { IsClassList self.now }
+    {
+        self.counts.len()
+    }
+
+    /// The ballot of the kind at the place, from 0.
+    pub fn row(&self, i: usize) -> &'a [Cand]
+        requires { i < length self.now }
+        ensures { result.now ≡ (slice_index_or self.now i ([], 0)).0 }
+    {
+        match self.counts.get_index(i) {
+            Some((row, _)) => *row,
+            None => unreachable!(),
+        }
+    }
+
+    /// How many ballots of the kind at the place there are, from 0.
+    pub fn count(&self, i: usize) -> u32
+        requires { i < length self.now }
+        ensures { result ≡ (slice_index_or self.now i ([], 0)).1 }
+    {
+        match self.counts.get_index(i) {
+            Some((_, count)) => *count,
+            None => unreachable!(),
+        }
+    }
+}
