@@ -1,11 +1,11 @@
 -- The choices, one row or one column at a time.
-use Rattle.std.proofs.Common.{ℕ, zero, suc, ◌≡◌, ◌≢◌, ◌<◌, ◌≤◌, ◌+◌, ◌-◌, arith, refl, ap, sym, ◌∙◌, subst, List, [], ◌∷◌, length, get_or, Some, None, ◌⊎◌, inl, inr, ⊎_elim, Bool, true, false, cond}
+use Rattle.std.proofs.Common.{ℕ, zero, suc, ◌≡◌, ◌≢◌, ◌<◌, ◌≤◌, ◌+◌, ◌-◌, arith, refl, ap, sym, ◌∙◌, subst, List, [], ◌∷◌, length, get_or, Some, None, ◌⊎◌, inl, inr, ⊎_elim, Bool, true, false}
 use Rattle.std.specs.Prelude.{ℤ, pos, negsuc, ◌<ℤ◌, ◌≤ℤ◌, int_lt, Option, find, filter}
 use Rattle.std.specs.List.{range_with_len}
 use Rattle.std.proofs.lemmas.Int.{ints}
-use Rattle.std.proofs.lemmas.Bool.{cases_eq, cases_lt}
+use Rattle.std.proofs.lemmas.Bool.{cases_eq}
 use Rattle.row_program.specs.Forms.{Table, entry, right_side, basic_of}
-use Rattle.row_program.specs.Method.{row_of_basic, is_negative, negative_in, row_of_found, leaving, lex_negative, difference, first_least, first_least_of, candidates, comes_before, column, value_count}
+use Rattle.row_program.specs.Method.{row_of_basic, is_negative, negative_in, row_of_found, leaving, lex_negative, difference, first_least, first_least_of, comes_before, column, value_count}
 use lib.IntN.{neg_ℤ}
 use Rattle.pivot_form.specs.Invariant.{IsForm}
 use Rattle.lex_dual.specs.Choices.{IsFirstNegative, lesser_of}

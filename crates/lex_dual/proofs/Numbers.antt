@@ -1,12 +1,10 @@
 -- Greatest common divisors and quotients of lists of numbers.
-use Rattle.std.proofs.Common.{ℕ, zero, suc, ◌≡◌, ◌<◌, ◌≤◌, ◌+◌, ◌-◌, ◌*◌, ◌/◌, ◌%◌, ◌^◌, arith, refl, ap, sym, ◌∙◌, subst, List, [], ◌∷◌, length, get_or, take, map, ◌⊎◌, ⊎_elim}
+use Rattle.std.proofs.Common.{ℕ, zero, suc, ◌≡◌, ◌<◌, ◌/◌, arith, refl, ap, sym, ◌∙◌, subst, List, [], ◌∷◌, map, ⊎_elim}
 use Rattle.std.specs.List.{All, fold}
 use Rattle.std.proofs.lemmas.Bool.{cases_eq}
 use Rattle.std.proofs.lemmas.List.Elements.{All-cons}
-use Rattle.std.proofs.lemmas.List.{length-map, take_all}
-use Rattle.std.proofs.Math.ListN.{get_or-map}
 use Rattle.std.proofs.Math.Nat.{eq-zero_of_zero-dvd, zero-div}
-use Rattle.std.proofs.lemmas.Nat.Gcd.{le_of_dvd, mod-eq-zero_of_dvd}
+use Rattle.std.proofs.lemmas.Nat.Gcd.{le_of_dvd}
 use Prim.Native.Nat.{◌∣◌}
 use Rattle.exact_num.specs.Divisors.{gcd_of}
 use Rattle.exact_num.proofs.Divisors.{IsGcd-gcd_of}
@@ -52,19 +50,3 @@ quotient_below x (suc d) m h = omega (arith, h)
 pub all_quotients : (d m : ℕ) (xs : List ℕ) → All (λ x. x < m) xs → All (λ x. x < m) (map (λ x. x / d) xs)
 all_quotients d m [] a = λ k e h. absurd (omega (arith, h))
 all_quotients d m (x ∷ xs) a = All-cons (λ (y : ℕ). y < m) (x / d) (map (λ y. y / d) xs) (quotient_below x d m (a 0 0 (omega arith))) (all_quotients d m xs (λ k e h. a (suc k) e (omega (arith, h))))
-
-pub exact_part : (g n : ℕ) → g ∣ n → n / g * g ≡ n
-exact_part g n h = let z = mod-eq-zero_of_dvd g h in omega (arith, z, split n g)
-  where
-    split : (n g : ℕ) → n ≡ n / g * g + n % g
-    split n g = omega arith
-
-pub part_positive : (g n : ℕ) → 0 < n → g ∣ n → 0 < n / g
-part_positive g n h d = let e = exact_part g n d in ⊎_elim
-    (λ (none : n / g ≡ 0). let z : n / g * g ≡ 0 * g = ap (λ (x : ℕ). x * g) none in absurd (omega (arith, e, z, h)))
-    (λ some. omega (arith, some))
-    (cases_eq (n / g) 0)
-
-pub positive_product : (a b : ℕ) → 0 < a → 0 < b → 0 < a * b
-positive_product zero b h l = absurd (omega (arith, h))
-positive_product (suc a) b h l = omega (arith, l)

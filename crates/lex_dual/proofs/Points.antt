@@ -1,5 +1,5 @@
 -- The first large number of a list, and the numbers of a point.
-use Rattle.std.proofs.Common.{ℕ, zero, suc, ◌≡◌, ◌<◌, ◌≤◌, ◌+◌, ◌-◌, ◌*◌, ◌/◌, ◌^◌, arith, refl, ap, sym, ◌∙◌, subst, List, [], ◌∷◌, ◌++◌, length, map, ◌⊎◌, ⊎_elim, Bool, true, false, None, Some}
+use Rattle.std.proofs.Common.{ℕ, zero, suc, ◌≡◌, ◌<◌, ◌≤◌, ◌+◌, ◌^◌, arith, refl, ap, sym, ◌∙◌, subst, length, map, ⊎_elim, Bool, true, false, None, Some}
 use Rattle.std.specs.Prelude.{Option, find}
 use Rattle.std.specs.List.{range_with_len}
 use Rattle.std.specs.Option.{option_or}
@@ -8,7 +8,7 @@ use Rattle.std.proofs.lemmas.Bool.Decides.{nat_tests}
 use Rattle.std.proofs.lemmas.List.Folds.{find-append}
 use Rattle.row_program.specs.Forms.{Table}
 use Rattle.row_program.specs.declared.program.Program.{Program}
-use Rattle.dual_theory.specs.Ends.{lcm_of, lowest_den, lowest_num, common_den, whole_number, whole_numbers, large_in_point, point_whole}
+use Rattle.dual_theory.specs.Ends.{lcm_of, lowest_den, common_den, whole_numbers, large_in_point, point_whole}
 use Rattle.lex_dual.specs.declared.solved.SolveFault.{SolveFault}
 use Rattle.lex_dual.specs.declared.solved.SolveFault.TheVariants.{Wide, Memory}
 use Rattle.lex_dual.specs.Faults.{is_large, IfWide}

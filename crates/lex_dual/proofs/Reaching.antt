@@ -1,19 +1,18 @@
 -- Forms that the method reaches by forms without large entries.
-use Rattle.std.proofs.Common.{ℕ, zero, suc, ◌≡◌, ◌≢◌, ◌<◌, ◌≤◌, ◌+◌, ◌/◌, ◌^◌, arith, refl, ap, sym, ◌∙◌, subst, List, [], length, get_or, None, Some, ◌⊎◌, inl, inr, ⊎_elim}
-use Rattle.std.specs.Prelude.{ℤ, pos, Option, unsigned_abs, ◌<ℤ◌}
-use Rattle.std.specs.List.{All}
+use Rattle.std.proofs.Common.{ℕ, suc, ◌≡◌, ◌≢◌, ◌<◌, ◌+◌, ◌/◌, arith, refl, ap, sym, ◌∙◌, subst, List, [], length, None, Some, inl, inr, ⊎_elim}
+use Rattle.std.specs.Prelude.{pos, Option, unsigned_abs, ◌<ℤ◌}
 use Rattle.std.proofs.lemmas.Bool.{cases_eq}
 use Rattle.std.proofs.lemmas.List.{get_or_default, length-map}
 use Rattle.std.proofs.lemmas.List.FromFn.{length-map-range_with_len}
 use Rattle.row_program.specs.declared.program.Program.{Program}
-use Rattle.row_program.specs.Forms.{Table, row_of, entry, tableau, first_form, next_form, first_large_of, variable_count, basic_of, IsNonbasic}
-use Rattle.row_program.specs.Method.{leaving, entering, run_of, step, value_count, IsBest, IsNever, IsWide}
+use Rattle.row_program.specs.Forms.{Table, entry, tableau, first_form, next_form, first_large_of, variable_count, basic_of, IsNonbasic}
+use Rattle.row_program.specs.Method.{leaving, entering, run_of, step, IsBest, IsNever, IsWide}
 use Rattle.pivot_form.specs.Invariant.{IsForm, IsEquation}
 use Rattle.pivot_form.proofs.Equations.{small_rows_from_none}
 use Rattle.dual_theory.specs.Values.{IsRun}
 use Rattle.dual_theory.specs.Ends.{IsWideSize, large_in_point}
 use Rattle.dual_theory.specs.Multipliers.{multipliers_of, slack_sizes, divisor_of}
-use Rattle.dual_theory.proofs.Wide.{not_wide_best, not_wide_never, later_narrow, wide_size}
+use Rattle.dual_theory.proofs.Wide.{not_wide_best, not_wide_never, later_narrow}
 use Rattle.dual_theory.specs.Measures.{measure}
 use Rattle.dual_theory.proofs.Runs.{run_kept, value_count_is, leaving_not_cost}
 use Rattle.dual_theory.proofs.Chosen.{leaving_row, entering_column, entering_negative, entering_free, step_is_next, step_stays_best}

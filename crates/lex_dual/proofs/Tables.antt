@@ -1,20 +1,21 @@
 -- Where the basic variables stand, and the table of their rows.
-use Rattle.std.proofs.Common.{ℕ, zero, suc, ◌≡◌, ◌≢◌, ◌<◌, ◌≤◌, ◌+◌, ◌-◌, ◌^◌, arith, refl, ap, sym, ◌∙◌, subst, List, [], ◌∷◌, ◌++◌, length, get_or, set, map, Some, None, ◌⊎◌, inl, inr, ⊎_elim, Bool, true, false, cond}
-use Rattle.std.specs.Prelude.{ℤ, pos, Option, ◌<ℤ◌, ◌==◌, unsigned_abs}
-use Rattle.std.specs.List.{position, position_or_len, range_with_len}
+use Rattle.std.proofs.Common.{ℕ, zero, suc, ◌≡◌, ◌≢◌, ◌<◌, ◌+◌, ◌-◌, ◌^◌, arith, refl, ap, sym, ◌∙◌, subst, List, [], ◌∷◌, ◌++◌, length, get_or, set, Some, None, ⊎_elim, true, false}
+use Rattle.std.specs.Prelude.{pos, Option, ◌<ℤ◌, ◌==◌, unsigned_abs}
+use Rattle.std.specs.List.{position, position_or_len}
 use Rattle.std.proofs.lemmas.Int.{ints}
-use Rattle.std.proofs.lemmas.Bool.{cases_eq, cases_lt}
+use Rattle.std.proofs.lemmas.Bool.{cases_eq}
 use Rattle.std.proofs.lemmas.Bool.Decides.{nat_tests}
-use Rattle.std.proofs.lemmas.List.{get_or-set_same, get_or-set_other, length-set, length-map}
+use Rattle.std.proofs.lemmas.List.{get_or-set_same, get_or-set_other, length-set}
 use Rattle.std.proofs.lemmas.List.FromFn.{length-map-range_with_len, get_or-map-range_with_len, fill_by_all}
-use Rattle.std.proofs.lemmas.List.Sums.{position_or_len_is, fails_before_first}
+use Rattle.std.proofs.lemmas.List.Sums.{position_or_len_is}
 use Rattle.std.proofs.lemmas.List.Quantifiers.{position-Some}
 use Rattle.row_program.specs.declared.program.Program.{Program}
-use Rattle.row_program.specs.Forms.{Table, entry, right_side, basic_of, tableau, first_form, first_basic, next_form, next_row, turned, row_of, IsNonbasic, IsSolved}
+use Rattle.row_program.specs.Forms.{Table, entry, right_side, basic_of, tableau, first_form, first_basic, next_form, next_row, turned, row_of, IsNonbasic}
 use Rattle.row_program.specs.Method.{row_of_basic, value_count}
 use Rattle.pivot_form.specs.Invariant.{IsForm}
 use Rattle.pivot_form.proofs.Equations.{length-map_from}
 use Rattle.pivot_form.proofs.FirstForm.{basic_at, height_is, first_is_form}
+use Rattle.dual_theory.proofs.Found.{position_none}
 use Rattle.lex_dual.specs.Choices.{places_of}
 
 -- ---- the place of a number in a list
@@ -33,18 +34,12 @@ abbrev pub IsPlace : List ℕ → ℕ → Option ℕ → Type 0
 IsPlace xs v None = (k : ℕ) → k < length xs → get_or xs k 0 ≢ v
 IsPlace xs v (Some i) = (i < length xs) × (get_or xs i 0 ≡ v)
 
-clash : {P : Type 0} {n : ℕ} → Some n ≡ None → P
-clash e = cc
-
 passes : (b v : ℕ) → (b == v) ≡ true → b ≡ v
 passes b v e = grind (arith, nat_tests)
 
 pub place_of : (xs : List ℕ) (v : ℕ) (o : Option ℕ) → position (λ b. b == v) xs ≡ o → IsPlace xs v o
 place_of xs v (Some i) e = let found = position-Some (λ b. b == v) xs i 0 e in (found.0, passes (get_or xs i 0) v found.1)
-place_of xs v None e = λ k h is. ⊎_elim
-    (λ (inside : position_or_len (λ b. b == v) xs < length xs). let some : position (λ b. b == v) xs ≡ Some (position_or_len (λ b. b == v) xs) = grind (arith, nat_tests) in clash (sym some ∙ e))
-    (λ (past : length xs ≤ position_or_len (λ b. b == v) xs). let fails : (get_or xs k 0 == v) ≡ false = fails_before_first (λ b. b == v) xs k 0 (omega (arith, past, h)) in grind (arith, nat_tests))
-    (cases_lt (position_or_len (λ b. b == v) xs) (length xs))
+place_of xs v None e = λ k h is. let fails : (get_or xs k 0 == v) ≡ false = position_none (λ b. b == v) xs e k 0 h in grind (arith, nat_tests)
 
 -- no two rows have one basic variable
 abbrev pub IsApart : List ℕ → Type 0

@@ -1,10 +1,9 @@
 -- What `solve` answers.
-use Rattle.std.specs.Prelude.{ℕ, ◌≡◌, List, length}
-use Rattle.row_program.specs.Points.{IsPoint, IsLeastCost, IsLeastPoint}
+use Rattle.std.specs.Prelude.{ℕ, List}
+use Rattle.row_program.specs.Points.{IsPoint}
 use Rattle.row_program.specs.declared.program.Program.{Program}
 use Rattle.row_program.specs.declared.program.Point.{Point}
 use Rattle.exact_num.specs.declared.ratio.Ratio.{Ratio}
-use Rattle.dual_theory.specs.Multipliers.{BoundsCost, RulesOut, IsLowest}
 use Rattle.lex_dual.specs.declared.solved.Solved.{Solved}
 use Rattle.lex_dual.specs.declared.solved.Solved.TheVariants.{Best, Never}
 

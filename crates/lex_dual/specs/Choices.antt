@@ -1,5 +1,5 @@
 -- The table of rows, and the choices as they are made, one row or one column at a time.
-use Rattle.std.specs.Prelude.{ℕ, ℤ, pos, ◌<◌, ◌≤◌, ◌<ℤ◌, ◌≤ℤ◌, List, map, Bool, if◌then◌else◌, Option, Some, None}
+use Rattle.std.specs.Prelude.{ℕ, pos, ◌<◌, ◌≤◌, ◌<ℤ◌, ◌≤ℤ◌, List, map, Bool, if◌then◌else◌, Option, Some, None}
 use Rattle.std.specs.List.{range_with_len}
 use Rattle.row_program.specs.Forms.{Table, right_side, basic_of}
 use Rattle.row_program.specs.Method.{row_of_basic, value_count}

@@ -1,11 +1,10 @@
-use Rattle.std.proofs.Common.{arith, ap, sym, ◌∙◌, ◌≡◌, ◌<◌, None, Some, length, rules}
-use Rattle.std.specs.Prelude.{ℕ, ℤ, pos, Option}
+use Rattle.std.proofs.Common.{arith, ap, sym, ◌∙◌, ◌≡◌, None, Some, rules}
+use Rattle.std.specs.Prelude.{pos}
 use Rattle.std.proofs.lemmas.Int.{ints, to_z-of_z}
 use Rattle.std.proofs.lemmas.Bool.Decides.{nat_tests}
 use Rattle.std.specs.Int.RustNames.{FitsSigned}
 use mir.Syntax.{w64}
-use Rattle.row_program.specs.Forms.{entry}
-use Rattle.row_program.specs.Method.{row_of_basic, column, column_in}
+use Rattle.row_program.specs.Method.{row_of_basic, column_in}
 use Rattle.lex_dual.proofs.Tables.{place_at, row_place}
 use Rattle.lex_dual.proofs.choice.coefficient.Goals as goal
 

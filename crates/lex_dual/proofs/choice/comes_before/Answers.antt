@@ -1,5 +1,5 @@
 use Rattle.std.proofs.Common.{arith, ap, sym, ◌∙◌, ◌≡◌, rules, length}
-use Rattle.std.specs.Prelude.{ℕ, ℤ, pos, int_lt}
+use Rattle.std.specs.Prelude.{ℤ, pos, int_lt}
 use mir.Val.{of_z, to_z}
 use Rattle.row_program.specs.Method.{comes_before}
 use Rattle.std.proofs.lemmas.Int.{ints, to_z-of_z}

@@ -1,8 +1,6 @@
-use Rattle.std.proofs.Common.{arith, ap, sym, ◌∙◌, ◌≡◌, ◌<◌, ◌+◌, subst, Some, rules}
-use Rattle.std.specs.Prelude.{ℕ, ℤ, pos, ◌<ℤ◌, ◌≤ℤ◌, Option, IfSome}
-use Rattle.std.proofs.lemmas.Int.{ints, to_z-of_z}
-use Rattle.std.specs.Int.RustNames.{FitsSigned}
-use mir.Syntax.{w64}
+use Rattle.std.proofs.Common.{arith, ap, sym, ◌∙◌, ◌≡◌, ◌<◌, ◌+◌, subst, Some}
+use Rattle.std.specs.Prelude.{ℕ, pos, ◌<ℤ◌, ◌≤ℤ◌, Option, IfSome}
+use Rattle.std.proofs.lemmas.Int.{ints}
 use Rattle.row_program.specs.Forms.{entry}
 use Rattle.lex_dual.proofs.Choices.{scan_takes, scan_leaves, scan_ends, scanned}
 use Rattle.lex_dual.proofs.choice.entering.Goals as goal

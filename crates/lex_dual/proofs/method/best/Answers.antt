@@ -1,5 +1,5 @@
-use Rattle.std.proofs.Common.{arith, ℕ, ◌≡◌, ◌<◌, ap, sym, ◌∙◌, subst, rules, length, List, Some}
-use Rattle.std.specs.Prelude.{ℤ, pos, ◌<ℤ◌, ◌*ℤ◌}
+use Rattle.std.proofs.Common.{arith, ℕ, ◌≡◌, ap, sym, ◌∙◌, subst, rules, length, List, Some}
+use Rattle.std.specs.Prelude.{ℤ, ◌*ℤ◌}
 use Rattle.std.proofs.lemmas.Int.{ints, to_z-of_z}
 use Rattle.std.specs.Int.RustNames.{FitsSigned}
 use mir.Syntax.{w64}
@@ -9,7 +9,7 @@ use Rattle.std.proofs.lemmas.Result.{err_from_is_err_and}
 use Rattle.row_program.specs.Points.{IsLeastPoint}
 use Rattle.row_program.specs.Method.{IsWide}
 use Rattle.dual_theory.proofs.Wide.{wide_size}
-use Rattle.dual_theory.specs.Ends.{IsWideSize, large_in_point, point_whole, point_den}
+use Rattle.dual_theory.specs.Ends.{IsWideSize, large_in_point, point_whole}
 use Rattle.dual_theory.specs.Multipliers.{IsLowest, slack_sizes, multipliers_of, BoundsCost}
 use Rattle.dual_theory.proofs.Best.{best_point, best_cost}
 use Rattle.dual_theory.proofs.Unique.{same_cost}

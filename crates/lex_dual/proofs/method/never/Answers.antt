@@ -1,4 +1,4 @@
-use Rattle.std.proofs.Common.{arith, ℕ, ◌≡◌, ap, sym, ◌∙◌, subst, length}
+use Rattle.std.proofs.Common.{ap, sym, ◌∙◌, subst, length}
 use Rattle.dual_theory.specs.Multipliers.{IsLowest, slack_sizes, RulesOut}
 use Rattle.dual_theory.proofs.Shown.{never_point, never_shown, lowest_is}
 use Rattle.lex_dual.proofs.Reaching.{reached_run, reached_form, reached_variables, leaves_within, not_wide_at_never, each_multiplier}

@@ -1,4 +1,4 @@
-use Rattle.std.proofs.Common.{arith, ℕ, ◌≡◌, ap, sym, ◌∙◌, ◌<◌, length, subst}
+use Rattle.std.proofs.Common.{arith, ◌≡◌, ap, sym, ◌∙◌, ◌<◌, length, subst}
 use Rattle.std.proofs.lemmas.Result.{err_from_is_err_and}
 use Rattle.std.proofs.lemmas.List.{with_items_is}
 use Rattle.row_program.specs.Forms.{Table, next_form}
@@ -7,7 +7,7 @@ use Rattle.lex_dual.specs.Choices.{places_of}
 use Rattle.lex_dual.specs.Reached.{IsReached}
 use Rattle.dual_theory.proofs.Rising.{rises, none_twice, columns_positive}
 use Rattle.dual_theory.proofs.Wide.{wide_size}
-use Rattle.lex_dual.proofs.Reaching.{reached_first, reached_next, enters_nonbasic, leaves_not_cost, wide_next, falls}
+use Rattle.lex_dual.proofs.Reaching.{reached_next, enters_nonbasic, leaves_not_cost, wide_next, falls}
 use Rattle.lex_dual.proofs.method.solve.Goals as goal
 
 pub returns-in_err-form-clause-rises : goal.returns-in_err-form-clause-rises

@@ -1,4 +1,4 @@
-use Rattle.std.proofs.Common.{arith, ℕ, ◌≡◌, ap, sym, ◌∙◌, ◌/◌, length, get_or, set, List}
+use Rattle.std.proofs.Common.{arith, ℕ, ◌≡◌, ap, ◌∙◌, ◌/◌, length, get_or, set, List}
 use Rattle.exact_num.proofs.Maps.{map_front, map_front_more, map_front_all, get_or-map_front, length-map_front}
 use Rattle.lex_dual.proofs.multipliers.divide.Goals as goal
 

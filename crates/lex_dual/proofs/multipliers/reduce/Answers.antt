@@ -1,4 +1,4 @@
-use Rattle.std.proofs.Common.{arith, ℕ, ◌≡◌, ◌<◌, ◌^◌, sym, ◌∙◌, subst, List}
+use Rattle.std.proofs.Common.{arith, ℕ, ◌<◌, ◌^◌, sym, subst, List}
 use Rattle.std.specs.List.{All}
 use Rattle.lex_dual.proofs.Numbers.{lowest_zero, all_quotients}
 use Rattle.lex_dual.proofs.multipliers.reduce.Goals as goal

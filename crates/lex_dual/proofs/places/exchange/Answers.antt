@@ -1,6 +1,6 @@
 use Rattle.std.proofs.Common.{arith, ap, sym, ◌∙◌, ◌≡◌, List, set, None, Some}
 use Rattle.std.specs.Prelude.{ℕ, Option}
-use Rattle.std.proofs.lemmas.List.{set_past, length-set}
+use Rattle.std.proofs.lemmas.List.{set_past}
 use Rattle.row_program.specs.Forms.{basic_of}
 use Rattle.lex_dual.proofs.Tables.{exchanged}
 use Rattle.lex_dual.proofs.places.exchange.Goals as goal

@@ -1,4 +1,4 @@
-use Rattle.std.proofs.Common.{arith, ap, sym, ◌∙◌, ◌≡◌, ◌+◌, ◌-◌, ℕ, length, None, Some}
+use Rattle.std.proofs.Common.{arith, ◌≡◌, ◌-◌, ℕ, length, None, Some}
 use Rattle.std.proofs.lemmas.Result.{err_from_is_err_and}
 use Rattle.lex_dual.proofs.Points.{large_in_den, large_in_numbers, if_wide}
 use Rattle.std.specs.Prelude.{find}

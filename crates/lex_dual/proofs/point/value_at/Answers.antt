@@ -1,5 +1,5 @@
 use Rattle.std.proofs.Common.{arith, ap, sym, ◌∙◌, ◌≡◌, ◌+◌, None, Some, rules}
-use Rattle.std.specs.Prelude.{ℕ, ℤ, unsigned_abs, Option}
+use Rattle.std.specs.Prelude.{ℕ, unsigned_abs, Option}
 use Rattle.std.proofs.lemmas.Int.{ints, to_z-of_z}
 use Rattle.std.specs.Int.RustNames.{FitsSigned}
 use mir.Syntax.{w64}
