@@ -1,4 +1,4 @@
-// The method.
+// The method from the first form to the answer.
 ghost use Rattle.std.specs.Prelude.{◌≡◌, ◌<◌, ℕ, length, IfOk, IfErr, OnOk, Some, None};
 ghost use Rattle.row_program.specs.Points.{IsLeastCost, IsLeastPoint};
 ghost use Rattle.row_program.specs.Method.{leaving, entering, IsBest, IsWide};
@@ -20,10 +20,13 @@ use pivot_form::Form;
 use row_program::Program;
 use std::alloc::Global;
 
-/// The least cost over all points that meet the rows, with the lexicographically least point of that cost, or that no point
-/// meets them; and the multipliers of the kept rows that show it.
+/// The least cost over all points that meet the rows, with the lexicographically least point of that cost; or that no point
+/// meets them. The multipliers, one a kept row, show it for all points that meet the other rows: where the sum of multipliers
+/// times kept rows isn't negative, the cost is at least the value; where there is no point, the sum is always negative.
 ///
-/// `Wide` comes where a form has an entry of 63 bits or more, or at the end the point such a number.
+/// `Wide` comes where a form on the way has an entry or a right side of 63 bits or more, or at the end the point such a number.
+/// It names the first of these: in the first such form, row by row, each right side after its columns; else the first of the
+/// common denominators as they grow, variable by variable; else the first of the numbers.
 pub fn solve(alloc: Global, program: &Program) -> Result<Solved, SolveFault>
     ensures least_cost { IfOk result (OnBest (λ value _ _. IsLeastCost program.now value.num value.den)) }
     ensures least_point { IfOk result (OnBest (λ _ _ point. IsLeastPoint program.now point.whole point.den)) }
