@@ -1,17 +1,16 @@
 -- Certificates under plurality are within the limits of their text.
-use Rattle.std.proofs.Common.{ℕ, zero, suc, List, [], ◌∷◌, ◌++◌, Option, Some, ◌≡◌, ◌<◌, ◌≤◌, ◌+◌, ◌-◌, ◌∙◌, take, map, length, max, get_or, slice_get, All, replicate, sym, refl, ap, subst, arith}
+use Rattle.std.proofs.Common.{ℕ, zero, suc, List, [], ◌∷◌, ◌++◌, Option, Some, ◌≡◌, ◌<◌, ◌≤◌, ◌+◌, ◌-◌, ◌∙◌, take, length, slice_get, All, replicate, sym, refl, ap, subst, arith}
 use Rattle.std.proofs.lemmas.List.{length-map, map-append, replicate_more, take_more}
 use Rattle.std.proofs.lemmas.Option.{get_or_from_slice_get, slice_get_within}
 use Rattle.alteration_model.specs.declared.puts.Put.{Put}
 use Rattle.ballot_form.specs.Alterations.{IsAlterationFrom}
 use Rattle.ballot_form.specs.Ballots.{IsPoll, Poll}
 use Rattle.ballot_form.specs.Rules.{IsRule}
-use Rattle.ballot_form.specs.declared.outcome.Outcome.TheVariants.{Winner}
 use Rattle.ballot_form.specs.declared.rule.Rule.TheVariants.{Plurality}
 use Rattle.bound_tree.specs.Growth.{cuts_of}
-use Rattle.bound_tree.specs.Lines.{Line, CutWith, SplitInto, kid_count, lines_of, lines_of_all}
+use Rattle.bound_tree.specs.Lines.{CutWith, kid_count, lines_of, lines_of_all}
 use Rattle.bound_tree.specs.Nodes.{height, highest, size, size_all}
-use Rattle.bound_tree.specs.Plain.{Plain, Split, Cut, None}
+use Rattle.bound_tree.specs.Plain.{Plain, Split, Cut}
 use Rattle.cert_text.specs.CertText.{BodyFits, ClaimFits, IsPrintable, LineFits, OutcomeFits, PutFits, TurnFits}
 use Rattle.cert_text.specs.declared.cert.Cert.{Cert}
 use Rattle.cert_text.specs.declared.cert.Claim.{Claim}

@@ -1,5 +1,5 @@
 // Certificates made of what was found.
-ghost use Rattle.std.specs.Prelude.{◌≡◌, ◌≤◌, ◌-◌, ◌∷◌, [], IfOk, length, replicate};
+ghost use Rattle.std.specs.Prelude.{◌≡◌, ◌≤◌, ◌-◌, ◌∷◌, [], IfOk, replicate};
 ghost use Rattle.ballot_form.specs.Scores.{plurality_points};
 ghost use Rattle.bound_tree.specs.Growth.{cuts_of};
 ghost use Rattle.bound_tree.specs.Plain.{Split};

@@ -1,7 +1,3 @@
-pub mod Answers
-pub mod Led
-pub mod Closer
-pub mod Cuts
 pub mod Lines
 pub mod Ranges
 pub mod Numbers

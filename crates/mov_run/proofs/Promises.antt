@@ -7,12 +7,13 @@ use Rattle.ballot_csv.specs.PlainForm.{plain_form}
 use Rattle.ballot_csv.specs.declared.fault.BallotFault.{BallotFault}
 use Rattle.ballot_form.specs.declared.rule.Rule.TheVariants.{Plurality}
 use Rattle.mov_run.specs.Allowed.{Allowed, Answer, Answers, AnswersWords, HasNoContest, IsContestFile, IsFaultyFile, IsLong, IsUnread, OverContest, Source, ballot_limit}
-use Rattle.mov_run.specs.Certificates.{IsCertOf, cert_text}
+use Rattle.cert_text.specs.CertText.{CertText}
+use Rattle.margin_solve.specs.Certificates.{IsCertOf}
 use Rattle.mov_run.specs.Promised.{Causes, EndsWith, IsDone, IsToldContest, IsUntroubled, Promised, RefusesBallots, WritesMargin, WritesPlain, WritesTally}
 use Rattle.mov_run.specs.Ran.{CutShort, Delivers, Outside, Ran, SaysLine, Stopped, Wrote, line_of, source_of, status_of}
 use Rattle.mov_run.specs.Tally.{IsTally}
 use Rattle.mov_run.specs.Words.{BallotFile, IsNoCommand, meaning}
-use Rattle.mov_run.specs.declared.certificate.Cert.{Cert}
+use Rattle.cert_text.specs.declared.cert.Cert.{Cert}
 use Rattle.mov_run.specs.declared.jobs.Job.{Job}
 use Rattle.mov_run.specs.declared.jobs.Job.TheVariants.{Tally, Margin, Show}
 use Rattle.mov_run.specs.declared.jobs.WordFault.{WordFault}
@@ -79,8 +80,8 @@ writes_margin old new words s ran file k job told untroubled = elim ran.allowed 
   | inr m ↦ absurd (untroubled.memory (memory_of old new s ran.answer m.0 ran.delivered))
   | inl by ↦
       let answers : Answers (source_of old new) (Margin Plurality file) ran.answer = rw job at by in
-      let made = contest_answer old new file k (λ k a. (cert : Cert) × IsCertOf k.poll cert × (a ≡ Ok (record { ends = Done; text = cert_text cert }))) ran.answer told untroubled.reads answers in
-      (made.0, made.1, done_of old new s ran.answer (cert_text made.0) made.2 ran.delivered untroubled)
+      let made = contest_answer old new file k (λ k a. (cert : Cert) × (text : List ℕ) × IsCertOf k.poll cert × CertText text cert × (a ≡ Ok (record { ends = Done; text = text }))) ran.answer told untroubled.reads answers in
+      (made.0, made.1, made.2, made.3, done_of old new s ran.answer made.1 made.4 ran.delivered untroubled)
 ]
 
 writes_tally : (old new : Outside) (words : List (List ℕ)) (s : Status) → Ran old new words s → WritesTally old new words s
@@ -119,8 +120,8 @@ job_shape src (Tally rule file) a by =
     contest_shape src (Ok (Tally rule file)) file (λ k a. (text : List ℕ) × IsTally rule k text × (a ≡ Ok (record { ends = Done; text = text }))) a refl
     (λ k made. (record { ends = Done; text = made.0 }, made.2, refl)) by
 job_shape src (Margin rule file) a by =
-    contest_shape src (Ok (Margin rule file)) file (λ k a. (cert : Cert) × IsCertOf k.poll cert × (a ≡ Ok (record { ends = Done; text = cert_text cert }))) a refl
-    (λ k made. (record { ends = Done; text = cert_text made.0 }, made.2, refl)) by
+    contest_shape src (Ok (Margin rule file)) file (λ k a. (cert : Cert) × (text : List ℕ) × IsCertOf k.poll cert × CertText text cert × (a ≡ Ok (record { ends = Done; text = text }))) a refl
+    (λ k made. (record { ends = Done; text = made.1 }, made.4, refl)) by
 job_shape src (Show file) a by =
     contest_shape src (Ok (Show file)) file (λ k a. a ≡ Ok (record { ends = Done; text = plain_form k })) a refl
     (λ k made. (record { ends = Done; text = plain_form k }, made, refl)) by

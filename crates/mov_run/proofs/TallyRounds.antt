@@ -1,6 +1,6 @@
 -- From the reported order to the lines of its rounds.
 use Rattle.std.proofs.Common.{ℕ, List, [], ◌∷◌, None, ◌≡◌, ◌++◌, ◌<◌, ◌+◌, ◌∙◌, get_or, length, map, refl, sym, ap, arith}
-use Rattle.std.specs.Prelude.{Bool, codes, decimal, slice_index}
+use Rattle.std.specs.Prelude.{Bool, codes, decimal}
 use Rattle.std.specs.List.{flat_map, join_with_byte, range_with_len}
 use Rattle.std.proofs.lemmas.List.Folds.{flat_map-map}
 use Rattle.ballot_form.specs.Ballots.{IsPoll, Poll}

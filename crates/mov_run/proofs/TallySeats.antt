@@ -1,5 +1,5 @@
 -- From votes and seats to their lines.
-use Rattle.std.proofs.Common.{ℕ, List, ◌≡◌, ◌++◌, ◌<◌, ◌∙◌, length, refl, ap, arith, get_or}
+use Rattle.std.proofs.Common.{ℕ, List, ◌≡◌, ◌++◌, ◌<◌, ◌∙◌, length, refl, ap, arith}
 use Rattle.std.specs.Prelude.{slice_index}
 use Rattle.std.proofs.lemmas.List.FromFn.{get_or-map-range_with_len}
 use Rattle.ballot_form.specs.Ballots.{Poll}

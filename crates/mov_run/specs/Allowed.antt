@@ -5,10 +5,11 @@ use Rattle.ballot_csv.specs.BallotFile.{NamedPoll, read_of}
 use Rattle.ballot_csv.specs.PlainForm.{plain_form}
 use Rattle.ballot_csv.specs.declared.fault.BallotFault.{BallotFault}
 use Rattle.ballot_form.specs.declared.contest.Contest.{Contest}
-use Rattle.mov_run.specs.Certificates.{IsCertOf, cert_text}
+use Rattle.cert_text.specs.CertText.{CertText}
+use Rattle.margin_solve.specs.Certificates.{IsCertOf}
 use Rattle.mov_run.specs.Tally.{IsTally}
 use Rattle.mov_run.specs.Words.{IsNoCommand, meaning}
-use Rattle.mov_run.specs.declared.certificate.Cert.{Cert}
+use Rattle.cert_text.specs.declared.cert.Cert.{Cert}
 use Rattle.mov_run.specs.declared.jobs.Job.{Job}
 use Rattle.mov_run.specs.declared.jobs.Job.TheVariants.{Tally, Margin, Show}
 use Rattle.mov_run.specs.declared.jobs.WordFault.{WordFault}
@@ -76,7 +77,7 @@ OverContest s name next a =
 -- the answers of a job, want of memory aside
 abbrev pub Answers : Source → Job → Answer → Type 0
 Answers s (Tally rule file) a = OverContest s file (λ k a. (text : List ℕ) × IsTally rule k text × (a ≡ Ok (record { ends = Done; text = text }))) a
-Answers s (Margin rule file) a = OverContest s file (λ k a. (cert : Cert) × IsCertOf k.poll cert × (a ≡ Ok (record { ends = Done; text = cert_text cert }))) a
+Answers s (Margin rule file) a = OverContest s file (λ k a. (cert : Cert) × (text : List ℕ) × IsCertOf k.poll cert × CertText text cert × (a ≡ Ok (record { ends = Done; text = text }))) a
 Answers s (Show file) a = OverContest s file (λ k a. a ≡ Ok (record { ends = Done; text = plain_form k })) a
 
 -- the answers to words

@@ -1,5 +1,3 @@
-pub mod Certificates
-pub mod Nearest
 pub mod Tally
 pub mod Counted
 pub mod Words

@@ -8,11 +8,12 @@ use Rattle.ballot_csv.specs.declared.fault.BallotFault.{BallotFault}
 use Rattle.ballot_form.specs.declared.rule.Rule.{Rule}
 use Rattle.ballot_form.specs.declared.rule.Rule.TheVariants.{Plurality}
 use Rattle.mov_run.specs.Allowed.{Allowed, IsFaultyFile, IsLong, ballot_limit}
-use Rattle.mov_run.specs.Certificates.{IsCertOf, cert_text}
+use Rattle.cert_text.specs.CertText.{CertText}
+use Rattle.margin_solve.specs.Certificates.{IsCertOf}
 use Rattle.mov_run.specs.Ran.{Outside, Ran, SaysLine, line_of, source_of}
 use Rattle.mov_run.specs.Tally.{IsTally}
 use Rattle.mov_run.specs.Words.{BallotFile, IsNoCommand, Names, meaning}
-use Rattle.mov_run.specs.declared.certificate.Cert.{Cert}
+use Rattle.cert_text.specs.declared.cert.Cert.{Cert}
 use Rattle.mov_run.specs.declared.jobs.Job.TheVariants.{Tally, Margin, Show}
 use Rattle.mov_run.specs.declared.jobs.WordFault.{WordFault}
 use Rattle.mov_run.specs.declared.runs.Output.{Output}
@@ -43,7 +44,7 @@ pub record IsDone (old new : Outside) (s : Status) (text : List ℕ) : Type 0 wh
 abbrev pub WritesMargin : Outside → Outside → List (List ℕ) → Status → Type 0
 WritesMargin old new words s =
     (file : List ℕ) (k : NamedPoll) → meaning words ≡ Ok (Margin Plurality file) → IsToldContest old file k → IsUntroubled old new s →
-    (cert : Cert) × IsCertOf k.poll cert × IsDone old new s (cert_text cert)
+    (cert : Cert) × (text : List ℕ) × IsCertOf k.poll cert × CertText text cert × IsDone old new s text
 
 -- `tally` of a told and accepted file under a rule writes the text of the tally of its contest
 abbrev pub WritesTally : Outside → Outside → List (List ℕ) → Status → Type 0

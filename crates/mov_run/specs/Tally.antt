@@ -12,7 +12,7 @@ use Rattle.condorcet_count.specs.Preferences.{pref_of}
 use Rattle.dhondt_seats.specs.Seats.{reported_seats, votes_of}
 use Rattle.goal_rows.specs.Outcomes.{IsReported}
 use Rattle.irv_count.specs.Orders.{IsOrderBy, held_count, left_after}
-use Rattle.mov_run.specs.Certificates.{line_text}
+use Rattle.cert_text.specs.CertText.{line_text}
 
 -- what is said of each of n numbers from a on, in order
 abbrev pub for_each : ℕ → ℕ → (ℕ → List ℕ) → List ℕ

@@ -6,10 +6,8 @@
 //! the crates that count and define the margin.
 #![tactic(auto)]
 
-mod certificate;
 mod jobs;
 mod laws;
-mod margins;
 mod rules;
 mod runs;
 mod stops;
@@ -20,15 +18,12 @@ mod tally_scores;
 mod tally_seats;
 mod text;
 
-pub use certificate::{Cert, Found, NumberList};
 pub use jobs::{Job, WordFault, parse};
 pub use laws::a_tally_is_one_text;
-pub use margins::margin;
 pub use rules::RuleName;
 pub use runs::{Output, Status, run};
 pub use stops::Stop;
 pub use tally::tally_text;
-pub use text::print_cert;
 
 #[cfg(test)]
 mod tally_tests;

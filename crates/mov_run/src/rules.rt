@@ -1,5 +1,5 @@
 // Rules as the words name them.
-ghost use Rattle.std.specs.Prelude.{◌≡◌, ◌⊎◌, IfOk, min, option_map};
+ghost use Rattle.std.specs.Prelude.{◌≡◌, IfOk, min, option_map};
 ghost use Rattle.ballot_csv.specs.Counts as counts;
 ghost use Rattle.ballot_csv.specs.Counts.{number_of};
 ghost use Rattle.ballot_form.specs.Rules.{IsRule};

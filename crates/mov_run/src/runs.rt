@@ -1,22 +1,24 @@
 // The top call.
-ghost use Rattle.std.specs.Prelude.{◌≡◌, ◌≢◌, ◌⊎◌, ℕ, List, Option, map, string_bytes, IfOk, Ok, Err};
+ghost use Rattle.std.specs.Prelude.{◌≡◌, ◌≢◌, ◌⊎◌, List, map, string_bytes, IfOk, Ok, Err};
 ghost use Rattle.ballot_form.specs.Rules.{IsRule};
 ghost use Rattle.ballot_csv.specs.declared.fault.BallotKind.TheVariants as kind;
 ghost use Rattle.mov_run.specs.Allowed.{Allowed, AnswersOrMemory, Loads, LoadsContest};
 ghost use Rattle.mov_run.specs.Ran.{Ran, Sent, number_of, status_of};
 ghost use Rattle.mov_run.specs.Promised.{Promised};
 
-use crate::certificate::Cert;
 use crate::jobs::{Job, WordFault, parse};
-use crate::margins::margin;
 use crate::stops::{Stop, say, say_line};
 use crate::tally::tally_text;
-use crate::text::print_cert;
 use ballot_csv::{BallotFault, BallotKind, print_ballots, read_ballots};
 use ballot_form::{Contest, Rule, Text};
+use cert_text::print_cert;
+use margin_solve::margin;
 use mov_base::{List, Memory};
 use mov_edge::{Files, LoadFault, Sink, read_whole, write_whole};
 use std::alloc::Global;
+
+/// The most nodes of a tree that a search may grow.
+const BUDGET: u32 = 20_000;
 
 /// How a run ended.
 #[derive(Clone, Copy, Debug, Drop)]
@@ -175,10 +177,10 @@ fn margin_answer<F: Files>(alloc: Global, file: &Text, files: &mut F) -> Result<
     ensures kept { IfOk result (λ _. F.faults files.new ≡ F.faults files.old) }
 {
     let contest = load_contest(alloc, files, file)?;
-    let cert = margin(alloc, &contest, Rule::Plurality)?;
+    let cert = margin(alloc, &contest, Rule::Plurality, BUDGET)?;
     Ok(Output {
         ends: Status::Done,
-        text: print_cert(alloc, &cert)?,
+        text: List::from_vec(print_cert(alloc, &cert)?),
     })
 }
 

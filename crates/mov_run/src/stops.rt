@@ -1,5 +1,5 @@
 // Why a run stops before its text is whole, and the line that says so.
-ghost use Rattle.std.specs.Prelude.{◌≡◌, ◌⊎◌, ◌++◌, codes};
+ghost use Rattle.std.specs.Prelude.{◌≡◌, ◌++◌};
 ghost use Rattle.mov_run.specs.Ran.{Says, WritesAll, kind_text, line_of, word_line_of};
 ghost use Rattle.mov_run.specs.declared.stops.Stop.TheVariants.{Memory};
 

@@ -3,7 +3,7 @@ ghost use Rattle.std.specs.Prelude.{◌≡◌, ◌++◌, ◌∷◌, [], IfOk, On
 ghost use Rattle.std.specs.List.{flat_map};
 ghost use Rattle.ballot_csv.specs.BallotFile.{named_poll_of};
 ghost use Rattle.ballot_form.specs.Rules.{IsRule};
-ghost use Rattle.mov_run.specs.Certificates.{line_text};
+ghost use Rattle.cert_text.specs.CertText.{line_text};
 ghost use Rattle.mov_run.specs.Tally.{IsCounted, IsTally, names_text, reported_text, rule_text};
 ghost use Rattle.ballot_form.specs.declared.outcome.Outcome.TheVariants.{NoWinner, Seats, Winner};
 

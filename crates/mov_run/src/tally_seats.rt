@@ -1,7 +1,7 @@
 // The lines of votes and seats.
 ghost use Rattle.std.specs.Prelude.{◌≡◌, ◌≤◌, ◌++◌, ◌∷◌, [], IfOk, OnOk, codes, decimal, length, slice_index};
 ghost use Rattle.ballot_form.specs.declared.rule.Rule.TheVariants.{Dhondt};
-ghost use Rattle.mov_run.specs.Certificates.{line_text};
+ghost use Rattle.cert_text.specs.CertText.{line_text};
 ghost use Rattle.mov_run.specs.Tally.{IsCounted, seats_text};
 
 use crate::tally::push_seats;
