@@ -1,0 +1,5 @@
+//! x
+#![tactic(auto)]
+
+mod largest;
+mod laws;

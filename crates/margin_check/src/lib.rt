@@ -1,0 +1,7 @@
+//! Certificates are judged.
+#![tactic(auto)]
+
+mod verdict;
+mod walk;
+
+pub use verdict::{Reason, Verdict};
