@@ -1,5 +1,5 @@
 -- The greatest sum of at most so many numbers, from numbers that are counted in classes.
-use Rattle.std.specs.Prelude.{◌≡◌, ◌⊎◌, ℕ, ◌+◌, ◌-◌, ◌*◌, ◌^◌, ◌≤◌, min, map, All, length, List, [], ◌∷◌, slice_index_or, ℤ, pos, ◌+ℤ◌, ◌-ℤ◌, ◌<ℤ◌, ◌≤ℤ◌}
+use Rattle.std.specs.Prelude.{◌≡◌, ◌⊎◌, ℕ, ◌+◌, ◌-◌, ◌*◌, ◌^◌, ◌≤◌, min, map, All, length, List, [], ◌∷◌, slice_index_or, unsigned_abs, ℤ, pos, ◌+ℤ◌, ◌-ℤ◌, ◌<ℤ◌, ◌≤ℤ◌}
 use Rattle.mov_base.specs.Sums.{add_up, most}
 use Rattle.goal_rows.specs.declared.parts.Ground.{Ground}
 
@@ -20,6 +20,10 @@ IsDescending (p ∷ ps) = AllAtMost p.0 ps × IsDescending ps
 -- what a multiplier gives for each unit by which a key is below the best one
 abbrev pub gain_at : ℕ → ℕ → ℕ → ℕ
 gain_at best multiplier key = multiplier * (best - key)
+
+-- the same by the weight of the ballot that ranks the gainer alone; keys are 1,024 above the weights
+abbrev pub gain_under : ℤ → ℕ → ℕ → ℕ
+gain_under lone multiplier key = gain_at (unsigned_abs (lone +ℤ pos 1024)) multiplier key
 
 -- the gain of each class by its key
 abbrev pub gains_of : ℕ → ℕ → List (ℕ × ℕ) → List (ℕ × ℕ)
