@@ -28,16 +28,16 @@ named_goal (Some (Order order)) = None
 named_goal (Some (Pair gainer loser)) = Some (goals.Pair gainer loser)
 named_goal (Some (Cover x)) = None
 
--- it names a complete goal, whose rows hold after the changes
-abbrev pub IsMet : Rule → Poll → Outcome → Option GoalText → List (ℕ × List ℕ) → Type 0
-IsMet rule p reported text changes = (goal : Goal) × (named_goal text ≡ Some goal) × IsComplete (root_goals rule p.c reported) goal
-    × Holds (rows_of rule p.c reported goal) (after p changes).rows
+-- it names a complete goal, whose rows hold on the ballots
+abbrev pub IsMet : Rule → ℕ → Outcome → List Goal → Option GoalText → List (List ℕ) → Type 0
+IsMet rule c reported roots text rows =
+    (goal : Goal) × (named_goal text ≡ Some goal) × IsComplete roots goal × Holds (rows_of rule c reported goal) rows
 
--- what a claim asks of the goal and the changes: nothing where it is that nothing turns the outcome
-abbrev pub ClaimHolds : Claim → Type 0 → Type 0
-ClaimHolds (Margin k) met = met
-ClaimHolds Fixed met = Unit {0}
-ClaimHolds (Bounds low up stop) met = met
+-- what a claim asks of the goal and the ballots after the changes: nothing where it is that nothing turns the outcome
+abbrev pub ClaimHolds : Rule → ℕ → Outcome → List Goal → Claim → Option GoalText → List (List ℕ) → Type 0
+ClaimHolds rule c reported roots (Margin k) text rows = IsMet rule c reported roots text rows
+ClaimHolds rule c reported roots Fixed text rows = Unit {0}
+ClaimHolds rule c reported roots (Bounds low up stop) text rows = IsMet rule c reported roots text rows
 
 -- the number at which the cuts are tested, of n ballots
 abbrev pub level_of : ℕ → Claim → ℕ
@@ -57,7 +57,7 @@ cert_visits p cert = visits (root_goals cert.rule p.c cert.reported) goals.Root 
 
 -- the parts of validity, in order
 abbrev pub IsTurned : Poll → Cert → Type 0
-IsTurned p cert = ClaimHolds cert.claim (IsMet cert.rule p cert.reported cert.goal (pairs_of cert.puts))
+IsTurned p cert = ClaimHolds cert.rule p.c cert.reported (root_goals cert.rule p.c cert.reported) cert.claim cert.goal (after p (pairs_of cert.puts)).rows
 
 abbrev pub HasShape : Poll → Cert → Type 0
 HasShape p cert = All (IsShaped cert.rule p.c cert.reported (root_goals cert.rule p.c cert.reported)) (cert_visits p cert)

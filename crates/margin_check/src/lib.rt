@@ -1,6 +1,7 @@
 //! Certificates are judged.
 #![tactic(auto)]
 
+mod claim;
 mod verdict;
 mod walk;
 
