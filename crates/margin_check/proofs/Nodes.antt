@@ -54,7 +54,7 @@ shaped_Cut rule c reported roots goal tree multipliers is =
     let same : plain_of tree ≡ Cut multipliers = ap plain_of is ∙ plain_Cut multipliers in
     rw same (λ h. omega (arith, h), λ h. omega (arith, h))
 
-no_feature : (goal : Goal) (feature : Feature) → IsFeatureOf goal feature → ⊥
+pub no_feature : (goal : Goal) (feature : Feature) → IsFeatureOf goal feature → ⊥
 no_feature Root feature h = h
 no_feature (Pair g l) feature h = h
 

@@ -2,12 +2,16 @@
 use Rattle.std.specs.Prelude.{◌≡◌, ℕ, zero, suc, ◌+◌, List, [], ◌∷◌, length, Some}
 use Rattle.ballot_form.specs.Alterations.{IsAlteration}
 use Rattle.ballot_form.specs.Ballots.{Poll}
+use Rattle.ballot_form.specs.declared.outcome.Outcome.{Outcome}
+use Rattle.ballot_form.specs.declared.rule.Rule.{Rule}
 use Rattle.ballot_form.specs.declared.rule.Rule.TheVariants.{Plurality}
 use Rattle.alteration_model.specs.Faults.{IsFirstFault, pairs_of}
 use Rattle.alteration_model.specs.declared.faults.AlterFault.{AlterFault}
 use Rattle.alteration_model.specs.declared.faults.AlterFault.TheVariants.{NumberRange, NotAscending, BadBallot, Memory}
 use Rattle.goal_rows.specs.Goals.{root_goals}
 use Rattle.goal_rows.specs.Outcomes.{IsReported}
+use Rattle.goal_rows.specs.Races.{IsRace}
+use Rattle.goal_rows.specs.declared.goals.Goal.{Goal}
 use Rattle.cert_text.specs.declared.cert.Cert.{Cert}
 use Rattle.cert_text.specs.declared.cert.Claim.{Claim}
 use Rattle.cert_text.specs.declared.cert.Claim.TheVariants.{Margin, Fixed, Bounds}
@@ -92,3 +96,10 @@ pub record IsRefusal (p : Poll) (cert : Cert) (reason : Reason) (line : ℕ) : T
 abbrev pub Judges : Poll → Cert → Verdict → Type 0
 Judges p cert Valid = (cert.rule ≡ Plurality) × IsValidCert p cert
 Judges p cert (No reason line) = IsRefusal p cert reason line
+
+-- a race of these ballots under the certificate's rule, plurality, with its reported outcome
+pub record IsJudgedHere (rule : Rule) (p : Poll) (kinds : List (List ℕ × ℕ)) (reported : Outcome) (roots : List Goal) (cert : Cert) : Type 0 where
+  pub plurality : rule ≡ Plurality
+  pub race : IsRace rule p kinds reported roots
+  pub same_rule : rule ≡ cert.rule
+  pub same_outcome : reported ≡ cert.reported

@@ -1,5 +1,5 @@
 -- A walk over the nodes of a tree, up to the first one that fails.
-use Rattle.std.specs.Prelude.{◌≡◌, ℕ, ◌+◌, List, All, length}
+use Rattle.std.specs.Prelude.{◌≡◌, ℕ, ◌+◌, ◌≤◌, List, All, length}
 use Rattle.ballot_form.specs.Ballots.{Poll}
 use Rattle.ballot_form.specs.declared.outcome.Outcome.{Outcome}
 use Rattle.ballot_form.specs.declared.rule.Rule.{Rule}
@@ -26,3 +26,8 @@ Answers rule p reported roots asked visit = AnswersAt rule p reported roots aske
 abbrev pub EndsAt : {X : Type 0} → (X → Type 0) → ℕ → List X → End → Type 0
 EndsAt P number xs (Through next) = All P xs × (next ≡ number + length xs)
 EndsAt P number xs (Stopped at) = (place : ℕ) × IsFirstWithout P xs place × (at ≡ number + place)
+
+-- the number of the node at which a walk stopped is at most this
+abbrev pub IsWithin : ℕ → End → Type 0
+IsWithin most (Through next) = Unit {0}
+IsWithin most (Stopped at) = at ≤ most
