@@ -119,7 +119,7 @@ pub refuse_cut : (p : Poll) (cert : Cert) (t at line : ℕ) (end : End) (verdict
     → line ≡ tree_line (length cert.puts) cert.claim → verdict ≡ No reasons.CutFails (line + at) → Judges p cert verdict
 refuse_cut p cert t at line end verdict before level is ends line_is e =
     let stopped : EndsAt (Answers cert.rule p cert.reported (root_goals cert.rule p.c cert.reported) (Cuts t)) 0 (cert_visits p cert) (Stopped at) =
-        subst (λ x. EndsAt (Answers cert.rule p cert.reported (root_goals cert.rule p.c cert.reported) (Cuts t)) 0 (cert_visits p cert) x) is ends in
+    subst (λ x. EndsAt (Answers cert.rule p cert.reported (root_goals cert.rule p.c cert.reported) (Cuts t)) 0 (cert_visits p cert) x) is ends in
     let fails = second_fails (IsShaped cert.rule p.c cert.reported (root_goals cert.rule p.c cert.reported)) (Passes cert.rule p cert.reported t) (cert_visits p cert) stopped.0 before.1 stopped.1 in
     subst (λ v. Judges p cert v) (sym e) (record {
       before = before;

@@ -150,12 +150,12 @@ pub walk_over_split : (rule : Rule) (p : Poll) (reported : Outcome) (roots : Lis
     → EndsAt (Answers rule p reported roots asked) number (visits roots goal [] (plain_of tree)) end
 walk_over_split rule p reported roots asked goal tree kids lent goals shown number end is covered good shown_is lent_is given =
     let rest : EndsAt (Answers rule p reported roots asked) (number + 1) (visits_among roots goals (kids_of (map plain_of kids))) end =
-        subst (λ gs. EndsAt (Answers rule p reported roots asked) (number + 1) (visits_among roots gs (kids_of (map plain_of kids))) end) shown_is
-        (subst (λ ks. EndsAt (Answers rule p reported roots asked) (number + 1) (visits_among roots shown (kids_of (map plain_of ks))) end) lent_is given) in
+    subst (λ gs. EndsAt (Answers rule p reported roots asked) (number + 1) (visits_among roots gs (kids_of (map plain_of kids))) end) shown_is
+    (subst (λ ks. EndsAt (Answers rule p reported roots asked) (number + 1) (visits_among roots shown (kids_of (map plain_of ks))) end) lent_is given) in
     let same : plain_of tree ≡ Split (kids_of (map plain_of kids)) = ap plain_of is ∙ plain_Split kids in
     let here : AnswersAt rule p reported roots asked goal [] (Split (kids_of (map plain_of kids))) = subst (λ node. AnswersAt rule p reported roots asked goal [] node) same good in
     let below : EndsAt (Answers rule p reported roots asked) (number + 1) (visits_among roots (kid_goals (cover_of roots goal)) (kids_of (map plain_of kids))) end =
-        subst (λ gs. EndsAt (Answers rule p reported roots asked) (number + 1) (visits_among roots (kid_goals gs) (kids_of (map plain_of kids))) end) (sym covered) rest in
+    subst (λ gs. EndsAt (Answers rule p reported roots asked) (number + 1) (visits_among roots (kid_goals gs) (kids_of (map plain_of kids))) end) (sym covered) rest in
     rw same (one_through (Answers rule p reported roots asked) number (record { goal = goal; limits = []; node = Split (kids_of (map plain_of kids)) })
     (visits_among roots (kid_goals (cover_of roots goal)) (kids_of (map plain_of kids))) end here below)
 

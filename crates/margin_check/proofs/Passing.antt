@@ -92,8 +92,8 @@ pub cut_within : (rule : Rule) (p : Poll) (reported : Outcome) (at goal : Goal) 
 cut_within rule p reported at goal given multipliers t within ballots b same lent many is test =
     let e : min within (length p.rows + 1) ≡ min t (length p.rows + 1) = omega (arith, many, is) in
     let f : Cuts rule p reported at [] given within ≡ Cuts rule p reported goal [] multipliers t =
-        ap (λ n. CutsKept p.c p.rows (kept_of rule p reported at []) given n) e ∙ ap (λ g. Cuts rule p reported g [] given t) same
-        ∙ ap (λ ms. Cuts rule p reported goal [] ms t) lent in
+    ap (λ n. CutsKept p.c p.rows (kept_of rule p reported at []) given n) e ∙ ap (λ g. Cuts rule p reported g [] given t) same
+    ∙ ap (λ ms. Cuts rule p reported goal [] ms t) lent in
     subst (λ (X : Type 0). IsTrue b ↔ X) f test
 
 -- ---- what is asked of a node
@@ -102,8 +102,7 @@ pub passing_Cut : (rule : Rule) (p : Poll) (reported : Outcome) (roots : List Go
     → IsShapedAt rule p.c reported roots goal [] (plain_of tree) → (IsTrue b ↔ Cuts rule p reported goal [] multipliers t)
     → IsTrue b ↔ (IsShapedAt rule p.c reported roots goal [] (plain_of tree) × PassesAt rule p reported t goal [] (plain_of tree))
 passing_Cut rule p reported roots goal tree multipliers t b is shaped test =
-    let same : plain_of tree ≡ Cut multipliers = ap plain_of is ∙ plain_Cut multipliers in
-    (
+    let same : plain_of tree ≡ Cut multipliers = ap plain_of is ∙ plain_Cut multipliers in (
       λ h. (shaped, subst (λ node. PassesAt rule p reported t goal [] node) (sym same) (test.0 h)),
       λ h. test.1 (subst (λ node. PassesAt rule p reported t goal [] node) same h.1),
     )

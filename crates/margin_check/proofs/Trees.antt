@@ -49,15 +49,14 @@ module _ (rule : Rule) (p : Poll) (reported : Outcome) (roots : List Goal) (t : 
         let rest = visits_among roots (kid_goals (cover_of roots goal)) kids in
         let here = All-head S first rest shape in
         let got = covered (cover_of roots goal) (kid_count kids) here.1 in
-        let goals_are : kid_goals (cover_of roots goal) ≡ got.0 = ap kid_goals got.1 in
-        (
+        let goals_are : kid_goals (cover_of roots goal) ≡ got.0 = ap kid_goals got.1 in (
           here.0,
           (
             got.0,
             got.1,
             to_all kids got.0 got.2
-            (subst (λ gs. All S (visits_among roots gs kids)) goals_are (All-tail S first rest shape))
-            (subst (λ gs. All C (visits_among roots gs kids)) goals_are (All-tail C first rest cuts)),
+                (subst (λ gs. All S (visits_among roots gs kids)) goals_are (All-tail S first rest shape))
+                (subst (λ gs. All C (visits_among roots gs kids)) goals_are (All-tail C first rest cuts)),
           ),
         )
     to_proves (Branch f v low high) goal limits shape cuts =
@@ -65,8 +64,7 @@ module _ (rule : Rule) (p : Poll) (reported : Outcome) (roots : List Goal) (t : 
         let lows = visits roots goal (limits ++ low_limit f v ∷ []) low in
         let highs = visits roots goal (limits ++ high_limit f v ∷ []) high in
         let shapes = All-tail S first (lows ++ highs) shape in
-        let tests = All-tail C first (lows ++ highs) cuts in
-        (
+        let tests = All-tail C first (lows ++ highs) cuts in (
           All-head S first (lows ++ highs) shape,
           to_proves low goal (limits ++ low_limit f v ∷ []) (before S lows highs shapes) (before C lows highs tests),
           to_proves high goal (limits ++ high_limit f v ∷ []) (behind S lows highs shapes) (behind C lows highs tests),

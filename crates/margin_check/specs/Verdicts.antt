@@ -1,5 +1,5 @@
 -- The verdict on a certificate: valid, or the first part of validity that fails, with its line.
-use Rattle.std.specs.Prelude.{◌≡◌, ℕ, zero, suc, ◌+◌, List, [], ◌∷◌, length, Some}
+use Rattle.std.specs.Prelude.{◌≡◌, ℕ, zero, suc, ◌+◌, List, [], ◌∷◌, codes, length, Some}
 use Rattle.ballot_form.specs.Alterations.{IsAlteration}
 use Rattle.ballot_form.specs.Ballots.{Poll}
 use Rattle.ballot_form.specs.declared.outcome.Outcome.{Outcome}
@@ -38,6 +38,17 @@ number_of ClaimFails = 4
 number_of ShapeDiffers = 5
 number_of CutFails = 6
 number_of NumbersDisagree = 7
+
+-- the name of a reason
+abbrev pub name_of : Reason → List ℕ
+name_of NotBuilt = codes "NotBuilt"
+name_of HeadDiffers = codes "HeadDiffers"
+name_of ReportedDiffers = codes "ReportedDiffers"
+name_of BadAlteration = codes "BadAlteration"
+name_of ClaimFails = codes "ClaimFails"
+name_of ShapeDiffers = codes "ShapeDiffers"
+name_of CutFails = codes "CutFails"
+name_of NumbersDisagree = codes "NumbersDisagree"
 
 -- the part of validity that fails by a reason
 abbrev pub Part : ℕ → Poll → Cert → Type 0

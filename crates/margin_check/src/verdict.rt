@@ -1,6 +1,6 @@
 // Verdicts on certificates.
-ghost use Rattle.std.specs.Prelude.{◌≡◌, codes};
-ghost use Rattle.margin_check.specs.Verdicts.{number_of};
+ghost use Rattle.std.specs.Prelude.{◌≡◌};
+ghost use Rattle.margin_check.specs.Verdicts.{name_of, number_of};
 
 /// Why a certificate isn't valid: the first part that fails, in this order.
 #[derive(Clone, Copy, Debug, PartialEq, Eq)]
@@ -40,6 +40,21 @@ impl Reason {
         }
     }
 
+    /// The name of the reason.
+    pub fn name(self) -> &'static str
+        ensures { result.now ≡ name_of self }
+    {
+        match self {
+            Reason::NotBuilt => "NotBuilt",
+            Reason::HeadDiffers => "HeadDiffers",
+            Reason::ReportedDiffers => "ReportedDiffers",
+            Reason::BadAlteration => "BadAlteration",
+            Reason::ClaimFails => "ClaimFails",
+            Reason::ShapeDiffers => "ShapeDiffers",
+            Reason::CutFails => "CutFails",
+            Reason::NumbersDisagree => "NumbersDisagree",
+        }
+    }
 }
 
 /// What is said of a certificate.

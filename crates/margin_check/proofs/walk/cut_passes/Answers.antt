@@ -7,7 +7,7 @@ cuts-requires-clause-node c = (
   c.args.race.now.roll.now,
   c.args.race.now.reported,
   node_of c.args.race.now.rule c.args.race.now.roll.now c.args.race.now.kinds c.args.race.now.reported c.args.race.now.roots c.args.goal.now c.in_ok-node.node
-  c.requires.plurality c.candidates.ensures.poll c.requires.race c.requires.reached c.in_ok-node.ensures.goal c.in_ok-node.ensures.values,
+      c.requires.plurality c.candidates.ensures.poll c.requires.race c.requires.reached c.in_ok-node.ensures.goal c.in_ok-node.ensures.values,
 )
 
 pub cuts-requires-clause-room : goal.cuts-requires-clause-room
