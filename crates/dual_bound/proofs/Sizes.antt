@@ -1,9 +1,9 @@
 -- Goals that are reached are goals of the contest, and a node has few classes.
-use Rattle.std.proofs.Common.{◌≡◌, ◌≢◌, ℕ, zero, suc, ◌+◌, ◌-◌, ◌<◌, ◌≤◌, List, [], ◌∷◌, Bool, true, false, cond, map, length, get_or, sym, refl, ap, subst, ◌∙◌, arith, All}
+use Rattle.std.proofs.Common.{◌≡◌, ℕ, zero, suc, ◌+◌, ◌-◌, ◌<◌, ◌≤◌, List, [], ◌∷◌, Bool, true, false, cond, map, length, get_or, refl, ap, subst, ◌∙◌, arith, All}
 use Rattle.std.specs.Prelude.{Contains, nat_eq}
 use Rattle.std.proofs.lemmas.List.Elements.{Contains-get_or}
-use Rattle.ballot_form.specs.Ballots.{IsValidBallot, Poll}
-use Rattle.ballot_form.specs.Scores.{is_first, plurality_points}
+use Rattle.ballot_form.specs.Ballots.{Poll}
+use Rattle.ballot_form.specs.Scores.{is_first}
 use Rattle.ballot_form.specs.declared.outcome.Outcome.{Outcome}
 use Rattle.ballot_form.specs.declared.outcome.Outcome.TheVariants.{Winner, NoWinner, Seats}
 use Rattle.ballot_form.specs.declared.rule.Rule.{Rule}
@@ -56,8 +56,8 @@ few_keys keys below =
     let are = keys_are_classes keys in
     let cs = classes_of nat_eq keys in
     let small : All (λ y. y < 2048) (keys_of cs) = λ i d lt.
-        let there = (are.keys (get_or (keys_of cs) i d)).1 (Contains-get_or (keys_of cs) i d lt) in
-        subst (λ y. y < 2048) there.2 (below there.0 _ there.1)
+    let there = (are.keys (get_or (keys_of cs) i d)).1 (Contains-get_or (keys_of cs) i d lt) in
+    subst (λ y. y < 2048) there.2 (below there.0 _ there.1)
     in
     let n = length_valid 2048 (keys_of cs) (record { below = small; distinct = are.distinct }) in
     let e : length (keys_of cs) ≡ length cs = length_map _ cs in
@@ -70,7 +70,7 @@ keys_below c reported (Pair g l) rows = all_map _ 2048 rows (λ row. key_below (
 pub few_classes : (rule : Rule) (p : Poll) (reported : Outcome) (node : Ground) → IsNodeOf rule p reported node → length node.classes ≤ 4096
 few_classes rule p reported node is =
     let e : node.classes ≡ classes_of nat_eq (keys_under Plurality p.c reported node.goal p.rows) =
-        is.values.classes_are ∙ ap (λ r. classes_of nat_eq (keys_under r p.c reported node.goal p.rows)) is.plurality
+    is.values.classes_are ∙ ap (λ r. classes_of nat_eq (keys_under r p.c reported node.goal p.rows)) is.plurality
     in
     let n = few_keys (keys_under Plurality p.c reported node.goal p.rows) (keys_below p.c reported node.goal p.rows) in
     omega (arith, n, ap length e)
