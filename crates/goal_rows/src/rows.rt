@@ -1,5 +1,5 @@
 // Whether the rows of a goal hold.
-ghost use Rattle.std.specs.Prelude.{◌≡◌, ◌↔◌, ◌≤◌, ◌+◌, ℕ, length, IsTrue};
+ghost use Rattle.std.specs.Prelude.{◌≡◌, ◌↔◌, ◌≤◌, length, IsTrue};
 ghost use Rattle.ballot_form.specs.Scores.{plurality_points, score_of};
 ghost use Rattle.ballot_form.specs.declared.rule.Rule.TheVariants.{Plurality};
 ghost use Rattle.goal_rows.specs.Goals.{Holds, IsComplete, rows_of};

@@ -1,0 +1,29 @@
+use Rattle.std.proofs.Common.{ap, sym, ◌∙◌, subst, length}
+use Rattle.dual_theory.specs.Multipliers.{IsLowest, slack_sizes, RulesOut}
+use Rattle.dual_theory.proofs.Shown.{never_point, never_shown, lowest_is}
+use Rattle.lex_dual.proofs.Reaching.{reached_run, reached_form, reached_variables, leaves_within, not_wide_at_never, each_multiplier}
+use Rattle.lex_dual.proofs.method.never.Goals as goal
+
+pub multipliers-requires-clause-form : goal.multipliers-requires-clause-form
+multipliers-requires-clause-form c = reached_form c.args.program.now c.args.form.now c.requires.reached
+
+pub multipliers-requires-clause-variables : goal.multipliers-requires-clause-variables
+multipliers-requires-clause-variables c = reached_variables c.args.program.now c.args.form.now c.requires.reached
+
+pub multipliers-requires-clause-row : goal.multipliers-requires-clause-row
+multipliers-requires-clause-row c = leaves_within c.args.program.now c.args.form.now c.requires.reached c.args.row c.requires.leaving
+
+pub returns-clause-point : goal.returns-clause-point
+returns-clause-point c = never_point c.args.program.now c.args.form.now c.args.row (reached_run c.args.program.now c.args.form.now c.requires.reached) c.requires.leaving c.requires.none
+
+pub returns-clause-shown : goal.returns-clause-shown
+returns-clause-shown c = subst (RulesOut c.args.program.now) (sym c.in_ok-multipliers.ensures) (never_shown c.args.program.now c.args.form.now c.args.row (reached_run c.args.program.now c.args.form.now c.requires.reached) c.requires.leaving c.requires.none)
+
+pub returns-clause-each_row : goal.returns-clause-each_row
+returns-clause-each_row c = ap length c.in_ok-multipliers.ensures ∙ each_multiplier c.args.program.now c.args.form.now c.args.row
+
+pub returns-clause-lowest : goal.returns-clause-lowest
+returns-clause-lowest c = subst IsLowest (sym c.in_ok-multipliers.ensures) (lowest_is (slack_sizes c.args.program.now c.args.form.now c.args.row))
+
+pub returns-clause-narrow : goal.returns-clause-narrow
+returns-clause-narrow c = not_wide_at_never c.args.program.now c.args.form.now c.requires.reached c.args.row c.requires.leaving c.requires.none

@@ -1,0 +1,4 @@
+pub mod Choices
+pub mod Faults
+pub mod Answers
+pub mod Reached

@@ -1,0 +1,4 @@
+pub mod Answers
+pub mod Led
+pub mod Closer
+pub mod Printing

@@ -1,0 +1,9 @@
+use Rattle.std.proofs.Common.{◌≡◌, ◌≤◌, ◌+◌, ◌-◌, ◌++◌, drop, length}
+use Rattle.goal_rows.specs.Pairs.{first_led}
+use Rattle.margin_solve.proofs.challengers.led_by.Given as goal
+
+abbrev pub invariant-loop-i : goal.invariant-loop-i
+invariant-loop-i l = record {
+  led : l.numbers.items ++ first_led l.x (l.i + 1) (l.count - length l.numbers.items) (drop l.i l.roll.rows) ≡ first_led l.x 1 l.count l.roll.rows;
+  few : length l.numbers.items ≤ l.count;
+}
