@@ -1,0 +1,5 @@
+pub mod Greedy
+pub mod Sorting
+pub mod Sound
+pub mod Gains
+pub mod Exact

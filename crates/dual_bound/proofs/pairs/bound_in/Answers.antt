@@ -1,0 +1,14 @@
+use Rattle.std.proofs.Common.{rules, map, subst, ◌+◌}
+use Rattle.std.proofs.lemmas.Int.{to_z-of_z}
+use Rattle.dual_bound.specs.Largest.{IsGreatestCut, gain_under}
+use Rattle.dual_bound.proofs.pairs.bound_in.Goals as goal
+use mir.Val.{SFits}
+use mir.Syntax.{w128}
+
+pub returns : goal.returns
+returns c = record {
+  value = λ keys same.
+      let f : SFits w128 c.base.result = search rules in
+      let h = simp to_z-of_z at (c.greatest_cut.ensures.value _ (c.sorted_gains.ensures.same keys same)) in
+      subst (λ b. IsGreatestCut b (map (gain_under c.args.node.now.lone c.args.multiplier) keys) (c.args.node.now.ballots + 1) c.greatest_cut.result) c.base.ensures.value h;
+}

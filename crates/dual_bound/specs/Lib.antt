@@ -1,0 +1,3 @@
+pub mod Largest
+pub mod Nodes
+pub mod CutTest

@@ -1,0 +1,131 @@
+-- What is known after each part of the judgement.
+use Rattle.std.proofs.Common.{ℕ, zero, suc, List, [], ◌∷◌, Option, Some, None, All, Bool, true, false, IsTrue, ◌≡◌, ◌≢◌, ◌<◌, ◌≤◌, ◌+◌, ◌∙◌, ◌↔◌, length, map, cond, refl, ap, sym, subst, inl, inr, arith}
+use Rattle.std.specs.Prelude.{◌==◌, IfOk, Result, Ok, Err}
+use Rattle.std.proofs.lemmas.Bool.{false≢true}
+use Rattle.std.proofs.lemmas.List.Elements.{All-head, All-tail}
+use Rattle.ballot_form.specs.Alterations.{IsAlteration, after, after_from}
+use Rattle.ballot_form.specs.Ballots.{Poll}
+use Rattle.ballot_form.specs.declared.outcome.Outcome.{Outcome}
+use Rattle.ballot_form.specs.declared.rule.Rule.{Rule}
+use Rattle.alteration_model.specs.Faults.{Gives, IsFirstFault, IsFirstFaultFrom, IsPutFault, pairs_of}
+use Rattle.alteration_model.specs.declared.faults.AlterFault.{AlterFault}
+use Rattle.alteration_model.specs.declared.faults.AlterFault.TheVariants.{NumberRange, NotAscending, BadBallot, Memory}
+use Rattle.alteration_model.specs.declared.puts.Put.{Put}
+use Rattle.bound_tree.specs.Nodes.{size}
+use Rattle.bound_tree.specs.Plain.{Plain}
+use Rattle.goal_rows.specs.Goals.{root_goals}
+use Rattle.goal_rows.specs.Outcomes.{IsReported}
+use Rattle.goal_rows.specs.declared.goals.Goal.{Goal}
+use Rattle.goal_rows.specs.declared.goals.Goal.TheVariants as goals
+use Rattle.goal_rows.proofs.Reporting.{one_reported}
+use Rattle.cert_text.specs.CertText.{BodyFits, ClaimFits, IsPrintable}
+use Rattle.cert_text.specs.declared.cert.Cert.{Cert}
+use Rattle.cert_text.specs.declared.cert.Claim.{Claim}
+use Rattle.cert_text.specs.declared.cert.Claim.TheVariants.{Margin, Fixed, Bounds}
+use Rattle.cert_text.specs.declared.cert.GoalText.{GoalText}
+use Rattle.margin_check.specs.Proving.{IsShaped, Passes}
+use Rattle.margin_check.specs.Validity.{cert_visits, level_of}
+use Rattle.margin_check.specs.Verdicts.{FirstParts, IsFirstWithout, Judges, node_line, place_of, tree_line}
+use Rattle.margin_check.specs.Visits.{Visit, visits}
+use Rattle.margin_check.specs.Walks.{Answers, EndsAt, IsWithin}
+use Rattle.margin_check.specs.declared.verdict.Reason.TheVariants as reasons
+use Rattle.margin_check.specs.declared.verdict.Verdict.{Verdict}
+use Rattle.margin_check.specs.declared.verdict.Verdict.TheVariants.{Valid, No}
+use Rattle.margin_check.specs.declared.walk.Asked.TheVariants.{Cuts}
+use Rattle.margin_check.specs.declared.walk.End.{End}
+use Rattle.margin_check.specs.declared.walk.End.TheVariants.{Through, Stopped}
+use Rattle.margin_check.proofs.Nodes.{visits_few}
+
+-- ---- the outcome and the ballots
+
+pub other_outcome : (rule : Rule) (p : Poll) (reported other : Outcome) (b : Bool) → IsReported rule p reported → (IsTrue b ↔ (reported ≡ other)) → b ≡ false → IsReported rule p other → ⊥
+other_outcome rule p reported other b is test wrong also =
+    let e : b ≡ true = test.1 (one_reported rule p reported other is also) in
+    false≢true (sym wrong ∙ e)
+
+length_after : (i : ℕ) (rows : List (List ℕ)) (changes : List (ℕ × List ℕ)) → length (after_from i rows changes) ≡ length rows
+length_after i [] changes = refl
+length_after i (row ∷ rows) [] = refl
+length_after i (row ∷ rows) (change ∷ changes) = by (change.0 == i) (length_after (i + 1) rows changes) (length_after (i + 1) rows (change ∷ changes))
+  where
+    by : (t : Bool) → length (after_from (i + 1) rows changes) ≡ length rows → length (after_from (i + 1) rows (change ∷ changes)) ≡ length rows
+        → length (cond t (change.1 ∷ after_from (i + 1) rows changes) (row ∷ after_from (i + 1) rows (change ∷ changes))) ≡ length (row ∷ rows)
+    by true e f = ap suc e
+    by false e f = ap suc f
+
+pub as_many_after : (p altered : Poll) (changes : List (ℕ × List ℕ)) → altered ≡ after p changes → length altered.rows ≡ length p.rows
+as_many_after p altered changes is = ap (λ (q : Poll). length q.rows) is ∙ length_after 1 p.rows changes
+
+-- ---- a bad replacement
+
+pub first_fault : (p : Poll) (puts : List Put) (fault : AlterFault) → Gives p puts (Err fault) → fault ≢ Memory → IsFirstFault p puts (Some fault)
+first_fault p puts (NumberRange i) is other = is
+first_fault p puts (NotAscending i) is other = is
+first_fault p puts (BadBallot i) is other = is
+first_fault p puts Memory is other = absurd (other refl)
+
+place_at : (p : Poll) (at last : ℕ) (put : Put) (fault : AlterFault) → IsPutFault p at last put (Some fault) → place_of fault ≡ at
+place_at p at last put (NumberRange i) is = is.0
+place_at p at last put (NotAscending i) is = is.0
+place_at p at last put (BadBallot i) is = is.0
+place_at p at last put Memory is = absurd is
+
+place_from : (p : Poll) (at last : ℕ) (puts : List Put) (fault : AlterFault) → IsFirstFaultFrom p at last puts (Some fault) → place_of fault < at + length puts
+place_from p at last [] fault is = absurd is
+place_from p at last (put ∷ puts) fault (inl here) = omega (arith, place_at p at last put fault here)
+place_from p at last (put ∷ puts) fault (inr later) = omega (arith, place_from p (at + 1) put.number puts fault later.1)
+
+puts_of_body : (c : ℕ) (claim : Claim) (goal : Option GoalText) (puts : List Put) → ClaimFits claim → BodyFits c claim goal puts → length puts ≤ 1000000
+puts_of_body c (Margin k) None puts fits body = absurd body
+puts_of_body c (Margin k) (Some goal) puts fits body = omega (arith, fits, body.1)
+puts_of_body c Fixed goal puts fits body = omega (arith, ap length body.1)
+puts_of_body c (Bounds low up stop) None puts fits body = absurd body
+puts_of_body c (Bounds low up stop) (Some goal) puts fits body = omega (arith, fits.1, body.1)
+
+pub few_puts : (cert : Cert) → IsPrintable cert → length cert.puts ≤ 1000000
+few_puts cert printable = puts_of_body cert.c cert.claim cert.goal cert.puts printable.claim printable.body
+
+pub few_places : (p : Poll) (cert : Cert) (puts : List Put) (fault : AlterFault) → IsPrintable cert → puts ≡ cert.puts → Gives p puts (Err fault) → place_of fault ≤ 1000000
+few_places p cert puts (NumberRange i) printable same is = omega (arith, few_puts cert printable, ap length same, place_from p 0 0 puts (NumberRange i) is)
+few_places p cert puts (NotAscending i) printable same is = omega (arith, few_puts cert printable, ap length same, place_from p 0 0 puts (NotAscending i) is)
+few_places p cert puts (BadBallot i) printable same is = omega (arith, few_puts cert printable, ap length same, place_from p 0 0 puts (BadBallot i) is)
+few_places p cert puts Memory printable same is = omega arith
+
+pub refuse_puts : (p : Poll) (cert : Cert) (puts : List Put) (fault : AlterFault) (verdict : Verdict) → FirstParts 3 p cert → puts ≡ cert.puts → Gives p puts (Err fault) → fault ≢ Memory
+    → verdict ≡ No reasons.BadAlteration (7 + place_of fault) → Judges p cert verdict
+refuse_puts p cert puts fault verdict before same is other e = subst (λ v. Judges p cert v) (sym e) (record {
+  before = before;
+  fails = (fault, subst (λ ps. IsFirstFault p ps (Some fault)) same (first_fault p puts fault is other), refl);
+})
+
+-- ---- the tree
+
+first_within : {X : Type 0} (P : X → Type 0) (xs : List X) (place : ℕ) → IsFirstWithout P xs place → place < length xs
+first_within P [] place is = absurd is
+first_within P (x ∷ xs) zero is = omega arith
+first_within P (x ∷ xs) (suc place) is = omega (arith, first_within P xs place is.1)
+
+pub stopped_few : (P : Visit → Type 0) (roots : List Goal) (goal : Goal) (tree : Plain) (end : End) → size tree ≤ 100000 → EndsAt P 0 (visits roots goal [] tree) end → IsWithin 100000 end
+stopped_few P roots goal tree (Through next) few is = tt
+stopped_few P roots goal tree (Stopped at) few is = omega (arith, few, is.2, visits_few roots goal [] tree, first_within P (visits roots goal [] tree) is.0 is.1)
+
+second_fails : {X : Type 0} (P Q : X → Type 0) (xs : List X) (place : ℕ) → All P xs → IsFirstWithout (λ x. P x × Q x) xs place → IsFirstWithout Q xs place
+second_fails P Q [] place all is = absurd is
+second_fails P Q (x ∷ xs) zero all is = λ h. is (All-head P x xs all, h)
+second_fails P Q (x ∷ xs) (suc place) all is = (is.0.1, second_fails P Q xs place (All-tail P x xs all) is.1)
+
+pub refuse_cut : (p : Poll) (cert : Cert) (t at line : ℕ) (end : End) (verdict : Verdict) → FirstParts 6 p cert → t ≡ level_of (length p.rows) cert.claim → end ≡ Stopped at
+    → EndsAt (Answers cert.rule p cert.reported (root_goals cert.rule p.c cert.reported) (Cuts t)) 0 (cert_visits p cert) end
+    → line ≡ tree_line (length cert.puts) cert.claim → verdict ≡ No reasons.CutFails (line + at) → Judges p cert verdict
+refuse_cut p cert t at line end verdict before level is ends line_is e =
+    let stopped : EndsAt (Answers cert.rule p cert.reported (root_goals cert.rule p.c cert.reported) (Cuts t)) 0 (cert_visits p cert) (Stopped at) =
+    subst (λ x. EndsAt (Answers cert.rule p cert.reported (root_goals cert.rule p.c cert.reported) (Cuts t)) 0 (cert_visits p cert) x) is ends in
+    let fails = second_fails (IsShaped cert.rule p.c cert.reported (root_goals cert.rule p.c cert.reported)) (Passes cert.rule p cert.reported t) (cert_visits p cert) stopped.0 before.1 stopped.1 in
+    subst (λ v. Judges p cert v) (sym e) (record {
+      before = before;
+      fails = (
+        stopped.0,
+        subst (λ n. IsFirstWithout (Passes cert.rule p cert.reported n) (cert_visits p cert) stopped.0) level fails,
+        omega (arith, line_is, stopped.2),
+      );
+    })

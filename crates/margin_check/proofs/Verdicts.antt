@@ -1,0 +1,136 @@
+-- There is one verdict on a certificate.
+use Rattle.std.proofs.Common.{ℕ, zero, suc, List, [], ◌∷◌, Option, Some, None, All, ◌≡◌, ◌<◌, ◌≤◌, ◌+◌, ◌∙◌, ◌↔◌, ◌⊎◌, length, map, refl, ap, sym, subst, inl, inr, arith}
+use Rattle.std.proofs.lemmas.Bool.{cases_lt}
+use Rattle.std.proofs.lemmas.List.Elements.{All-head, All-tail}
+use Rattle.ballot_form.specs.Alterations.{IsAlteration, IsAlterationFrom}
+use Rattle.ballot_form.specs.Ballots.{Poll}
+use Rattle.ballot_form.specs.declared.rule.Rule.TheVariants.{Plurality}
+use Rattle.alteration_model.specs.Faults.{IsFirstFault, IsFirstFaultFrom, pairs_of}
+use Rattle.alteration_model.specs.declared.faults.AlterFault.{AlterFault}
+use Rattle.alteration_model.specs.declared.puts.Put.{Put}
+use Rattle.alteration_model.proofs.Unique.{one_first_fault}
+use Rattle.goal_rows.specs.Goals.{root_goals}
+use Rattle.cert_text.specs.declared.cert.Cert.{Cert}
+use Rattle.margin_check.specs.Proving.{IsShaped, Passes}
+use Rattle.margin_check.specs.Validity.{IsValidCert, cert_visits, level_of}
+use Rattle.margin_check.specs.Verdicts.{Fails, FirstParts, IsFirstWithout, IsRefusal, Judges, Part, number_of, place_of}
+use Rattle.margin_check.specs.declared.verdict.Reason.{Reason}
+use Rattle.margin_check.specs.declared.verdict.Reason.TheVariants.{NotBuilt, HeadDiffers, ReportedDiffers, BadAlteration, ClaimFails, ShapeDiffers, CutFails, NumbersDisagree}
+use Rattle.margin_check.specs.declared.verdict.Verdict.{Verdict}
+use Rattle.margin_check.specs.declared.verdict.Verdict.TheVariants.{Valid, No}
+
+-- the reason with a number
+abbrev reason_at : ℕ → Reason
+reason_at zero = NotBuilt
+reason_at (suc zero) = HeadDiffers
+reason_at (suc (suc zero)) = ReportedDiffers
+reason_at (suc (suc (suc zero))) = BadAlteration
+reason_at (suc (suc (suc (suc zero)))) = ClaimFails
+reason_at (suc (suc (suc (suc (suc zero))))) = ShapeDiffers
+reason_at (suc (suc (suc (suc (suc (suc zero)))))) = CutFails
+reason_at (suc (suc (suc (suc (suc (suc (suc n))))))) = NumbersDisagree
+
+reason_back : (reason : Reason) → reason_at (number_of reason) ≡ reason
+reason_back NotBuilt = refl
+reason_back HeadDiffers = refl
+reason_back ReportedDiffers = refl
+reason_back BadAlteration = refl
+reason_back ClaimFails = refl
+reason_back ShapeDiffers = refl
+reason_back CutFails = refl
+reason_back NumbersDisagree = refl
+
+part_before : (i n : ℕ) (p : Poll) (cert : Cert) → i < n → FirstParts n p cert → Part i p cert
+part_before i zero p cert lt parts = absurd (omega (arith, lt))
+part_before i (suc n) p cert lt parts = elim (cases_lt i n) [
+  | inl below ↦ part_before i n p cert below parts.0
+  | inr above ↦ let same : n ≡ i = omega arith in subst (λ k. Part k p cert) same parts.1
+]
+
+part_of : (n : ℕ) (p : Poll) (cert : Cert) → cert.rule ≡ Plurality → IsValidCert p cert → Part n p cert
+part_of zero p cert is valid = is
+part_of (suc zero) p cert is valid = valid.head
+part_of (suc (suc zero)) p cert is valid = valid.reported
+part_of (suc (suc (suc zero))) p cert is valid = valid.alteration
+part_of (suc (suc (suc (suc zero)))) p cert is valid = valid.claim
+part_of (suc (suc (suc (suc (suc zero))))) p cert is valid = valid.shape
+part_of (suc (suc (suc (suc (suc (suc zero)))))) p cert is valid = valid.cuts
+part_of (suc (suc (suc (suc (suc (suc (suc n))))))) p cert is valid = valid.numbers
+
+-- ---- a part that fails doesn't hold, and fails in one line
+
+faultless_from : (p : Poll) (at last : ℕ) (puts : List Put) → IsAlterationFrom p.c (last + 1) (length p.rows) (pairs_of puts) → IsFirstFaultFrom p at last puts None
+faultless_from p at last [] is = tt
+faultless_from p at last (put ∷ puts) is = ((omega (arith, is.0), is.1, omega (arith, is.0), is.2), faultless_from p (at + 1) put.number puts is.3)
+
+no_fault : (p : Poll) (puts : List Put) (fault : AlterFault) → IsAlteration p (pairs_of puts) → IsFirstFault p puts (Some fault) → ⊥
+no_fault p puts fault ok is =
+    let e : None ≡ Some fault = one_first_fault p puts None (Some fault) (faultless_from p 0 0 puts ok) is in
+    cc
+
+not_all : {X : Type 0} (P : X → Type 0) (xs : List X) (place : ℕ) → IsFirstWithout P xs place → All P xs → ⊥
+not_all P [] place is all = is
+not_all P (x ∷ xs) zero is all = is (All-head P x xs all)
+not_all P (x ∷ xs) (suc place) is all = not_all P xs place is.1 (All-tail P x xs all)
+
+one_place : {X : Type 0} (P : X → Type 0) (xs : List X) (place other : ℕ) → IsFirstWithout P xs place → IsFirstWithout P xs other → place ≡ other
+one_place P [] place other is also = absurd is
+one_place P (x ∷ xs) zero zero is also = refl
+one_place P (x ∷ xs) zero (suc other) is also = absurd (is also.0)
+one_place P (x ∷ xs) (suc place) zero is also = absurd (also is.0)
+one_place P (x ∷ xs) (suc place) (suc other) is also = ap suc (one_place P xs place other is.1 also.1)
+
+failing : (reason : Reason) (p : Poll) (cert : Cert) (line : ℕ) → Fails reason p cert line → Part (number_of reason) p cert → ⊥
+failing NotBuilt p cert line fails part = fails.0 part
+failing HeadDiffers p cert line fails part = fails.0 part
+failing ReportedDiffers p cert line fails part = fails.0 part
+failing BadAlteration p cert line fails part = no_fault p cert.puts fails.0 part fails.1
+failing ClaimFails p cert line fails part = fails.0 part
+failing ShapeDiffers p cert line fails part = not_all (IsShaped cert.rule p.c cert.reported (root_goals cert.rule p.c cert.reported)) (cert_visits p cert) fails.0 fails.1 part
+failing CutFails p cert line fails part = not_all (Passes cert.rule p cert.reported (level_of (length p.rows) cert.claim)) (cert_visits p cert) fails.0 fails.1 part
+failing NumbersDisagree p cert line fails part = fails.0 part
+
+one_line : (reason : Reason) (p : Poll) (cert : Cert) (line other : ℕ) → Fails reason p cert line → Fails reason p cert other → line ≡ other
+one_line NotBuilt p cert line other a b = omega (arith, a.1, b.1)
+one_line HeadDiffers p cert line other a b = omega (arith, a.1, b.1)
+one_line ReportedDiffers p cert line other a b = omega (arith, a.1, b.1)
+one_line BadAlteration p cert line other a b =
+    let e : Some a.0 ≡ Some b.0 = one_first_fault p cert.puts (Some a.0) (Some b.0) a.1 b.1 in
+    let f : a.0 ≡ b.0 = cc in
+    omega (arith, a.2, b.2, ap place_of f)
+one_line ClaimFails p cert line other a b = omega (arith, a.1, b.1)
+one_line ShapeDiffers p cert line other a b =
+    omega (arith, a.2, b.2, one_place (IsShaped cert.rule p.c cert.reported (root_goals cert.rule p.c cert.reported)) (cert_visits p cert) a.0 b.0 a.1 b.1)
+one_line CutFails p cert line other a b =
+    omega (arith, a.2, b.2, one_place (Passes cert.rule p cert.reported (level_of (length p.rows) cert.claim)) (cert_visits p cert) a.0 b.0 a.1 b.1)
+one_line NumbersDisagree p cert line other a b = omega (arith, a.1, b.1)
+
+-- ---- one verdict
+
+earlier : (p : Poll) (cert : Cert) (reason other : Reason) (line at : ℕ) → IsRefusal p cert reason line → IsRefusal p cert other at → number_of reason < number_of other → ⊥
+earlier p cert reason other line at first second lt = failing reason p cert line first.fails (part_before (number_of reason) (number_of other) p cert lt second.before)
+
+same_refusal : (p : Poll) (cert : Cert) (reason other : Reason) (line at : ℕ) → IsRefusal p cert reason line → IsRefusal p cert other at → number_of reason ≡ number_of other → No reason line ≡ No other at
+same_refusal p cert reason other line at first second same =
+    let e : other ≡ reason = sym (reason_back other) ∙ ap reason_at (sym same) ∙ reason_back reason in
+    let fails : Fails reason p cert at = subst (λ r. Fails r p cert at) e second.fails in
+    let f = one_line reason p cert line at first.fails fails in
+    cc
+
+one_refusal : (p : Poll) (cert : Cert) (reason other : Reason) (line at : ℕ) → IsRefusal p cert reason line → IsRefusal p cert other at → No reason line ≡ No other at
+one_refusal p cert reason other line at first second = elim (cases_lt (number_of reason) (number_of other)) [
+  | inl below ↦ absurd (earlier p cert reason other line at first second below)
+  | inr above ↦ elim (cases_lt (number_of other) (number_of reason)) [
+    | inl below ↦ absurd (earlier p cert other reason at line second first below)
+    | inr over ↦ same_refusal p cert reason other line at first second (omega arith)
+  ]
+]
+
+pub one_verdict : (p : Poll) (cert : Cert) (verdict other : Verdict) → Judges p cert verdict → Judges p cert other → verdict ≡ other
+one_verdict p cert Valid Valid first second = refl
+one_verdict p cert Valid (No reason line) first second = absurd (failing reason p cert line second.fails (part_of (number_of reason) p cert first.0 first.1))
+one_verdict p cert (No reason line) Valid first second = absurd (failing reason p cert line first.fails (part_of (number_of reason) p cert second.0 second.1))
+one_verdict p cert (No reason line) (No other at) first second = one_refusal p cert reason other line at first second
+
+pub judges_exactly : (p : Poll) (cert : Cert) (verdict other : Verdict) → Judges p cert verdict → (verdict ≡ other) ↔ Judges p cert other
+judges_exactly p cert verdict other is = (λ e. subst (λ v. Judges p cert v) e is, λ also. one_verdict p cert verdict other is also)

@@ -1,0 +1,76 @@
+-- When a certificate is valid for a contest.
+use Rattle.std.specs.Prelude.{◌≡◌, ℕ, ◌+◌, ◌<◌, List, [], All, length, Option, Some, None}
+use Rattle.ballot_form.specs.Alterations.{IsAlteration, after}
+use Rattle.ballot_form.specs.Ballots.{Poll}
+use Rattle.ballot_form.specs.declared.outcome.Outcome.{Outcome}
+use Rattle.ballot_form.specs.declared.rule.Rule.{Rule}
+use Rattle.alteration_model.specs.Faults.{pairs_of}
+use Rattle.goal_rows.specs.Goals.{Holds, IsComplete, root_goals, rows_of}
+use Rattle.goal_rows.specs.Outcomes.{IsReported}
+use Rattle.goal_rows.specs.declared.goals.Goal.{Goal}
+use Rattle.goal_rows.specs.declared.goals.Goal.TheVariants as goals
+use Rattle.cert_text.specs.declared.cert.Cert.{Cert}
+use Rattle.cert_text.specs.declared.cert.Claim.{Claim}
+use Rattle.cert_text.specs.declared.cert.Claim.TheVariants.{Margin, Fixed, Bounds}
+use Rattle.cert_text.specs.declared.cert.GoalText.{GoalText}
+use Rattle.cert_text.specs.declared.cert.GoalText.TheVariants.{Order, Pair, Cover}
+use Rattle.margin_check.specs.Proving.{IsShaped, Passes}
+use Rattle.margin_check.specs.Visits.{Visit, visits}
+
+-- the certificate has the contest's numbers of candidates and of ballots
+abbrev pub HasSizes : Poll → Cert → Type 0
+HasSizes p cert = (cert.c ≡ p.c) × (cert.ballots ≡ length p.rows)
+
+-- the goal that a certificate names
+abbrev pub named_goal : Option GoalText → Option Goal
+named_goal None = None
+named_goal (Some (Order order)) = None
+named_goal (Some (Pair gainer loser)) = Some (goals.Pair gainer loser)
+named_goal (Some (Cover x)) = None
+
+-- it names a complete goal, whose rows hold on the ballots
+abbrev pub IsMet : Rule → ℕ → Outcome → List Goal → Option GoalText → List (List ℕ) → Type 0
+IsMet rule c reported roots text rows =
+    (goal : Goal) × (named_goal text ≡ Some goal) × IsComplete roots goal × Holds (rows_of rule c reported goal) rows
+
+-- what a claim asks of the goal and the ballots after the changes: nothing where it is that nothing turns the outcome
+abbrev pub ClaimHolds : Rule → ℕ → Outcome → List Goal → Claim → Option GoalText → List (List ℕ) → Type 0
+ClaimHolds rule c reported roots (Margin k) text rows = IsMet rule c reported roots text rows
+ClaimHolds rule c reported roots Fixed text rows = Unit {0}
+ClaimHolds rule c reported roots (Bounds low up stop) text rows = IsMet rule c reported roots text rows
+
+-- the number at which the cuts are tested, of n ballots
+abbrev pub level_of : ℕ → Claim → ℕ
+level_of n (Margin k) = k
+level_of n Fixed = n + 1
+level_of n (Bounds low up stop) = low
+
+-- a lower bound is below the upper one
+abbrev pub HasOrder : Claim → Type 0
+HasOrder (Margin k) = Unit {0}
+HasOrder Fixed = Unit {0}
+HasOrder (Bounds low up stop) = low < up
+
+-- the nodes of its tree, where the root has the goal Root and no limits
+abbrev pub cert_visits : Poll → Cert → List Visit
+cert_visits p cert = visits (root_goals cert.rule p.c cert.reported) goals.Root [] cert.tree
+
+-- the parts of validity, in order
+abbrev pub IsTurned : Poll → Cert → Type 0
+IsTurned p cert = ClaimHolds cert.rule p.c cert.reported (root_goals cert.rule p.c cert.reported) cert.claim cert.goal (after p (pairs_of cert.puts)).rows
+
+abbrev pub HasShape : Poll → Cert → Type 0
+HasShape p cert = All (IsShaped cert.rule p.c cert.reported (root_goals cert.rule p.c cert.reported)) (cert_visits p cert)
+
+abbrev pub HasCuts : Poll → Cert → Type 0
+HasCuts p cert = All (Passes cert.rule p cert.reported (level_of (length p.rows) cert.claim)) (cert_visits p cert)
+
+-- a certificate that is valid for a contest
+pub record IsValidCert (p : Poll) (cert : Cert) : Type 0 where
+  pub head : HasSizes p cert
+  pub reported : IsReported cert.rule p cert.reported
+  pub alteration : IsAlteration p (pairs_of cert.puts)
+  pub claim : IsTurned p cert
+  pub shape : HasShape p cert
+  pub cuts : HasCuts p cert
+  pub numbers : HasOrder cert.claim
