@@ -25,7 +25,6 @@ use Rattle.mov_run.specs.declared.stops.Stop.{Stop}
 use Rattle.mov_run.specs.declared.stops.Stop.TheVariants as stop
 use Rattle.mov_run.proofs.BallotRefusals.{ends_with}
 use Rattle.mov_run.proofs.Delivered.{Goes, delivered_err, delivered_ok, done_by, memory_of, refused_by}
-use Rattle.mov_run.proofs.OneVerdict.{one_refusal, valid_is_taken}
 use Rattle.mov_run.proofs.Told.{contest_answer, err_is, no_cert_stop, not_both, ok_or_err, same_cert}
 
 -- the output of a verdict
@@ -56,41 +55,53 @@ at_check old new words s name k ran over = elim ran.allowed [
 
 -- ---- a certificate is judged
 
-said : (old new : Outside) (s : Status) (k : NamedPoll) (cert : Cert) (v : Verdict) → IsVerdict k cert v → Goes old new s (output_of cert v) → IsUntroubled old new s
-    → SaysValid old new s k cert ⊎ SaysRefused old new s k cert
-said old new s k cert Valid by goes untroubled = inl (record {
-  known = by.judges.0;
-  valid = by.judges.1;
+-- a certificate that is told has a verdict, and its text went out
+verdict_on : (old new : Outside) (s : Status) (name : List ℕ) (k : NamedPoll) (cert : Cert) → AtCheck old new s name k → IsToldCert old name cert → IsUntroubled old new s
+    → (v : Verdict) × IsVerdict k cert v × Goes old new s (output_of cert v)
+verdict_on old new s name k cert (inl memory) told untroubled = absurd (untroubled.memory memory)
+verdict_on old new s name k cert (inr (inl stopped)) told untroubled = absurd (no_cert_stop old new name cert stopped.0 told untroubled.reads stopped.3)
+verdict_on old new s name k cert (inr (inr good)) told untroubled =
+    let same = same_cert old new name cert good.0 told good.1 in
+    let v = good.2 in
+    (v.0, subst (λ c. IsVerdict k c v.0) same v.1, subst (λ c. Goes old new s (output_of c v.0)) same v.2)
+
+says_valid : (old new : Outside) (s : Status) (k : NamedPoll) (cert : Cert) → IsVerdict k cert Valid → Goes old new s (output_of cert Valid) → IsUntroubled old new s → SaysValid old new s k cert
+says_valid old new s k cert by goes untroubled = record {
+  known = (by.valid.0 refl).0;
+  valid = (by.valid.0 refl).1;
   claim = by.claim refl;
   done = done_by old new s (valid_text cert) goes untroubled;
-})
+}
+
+said : (old new : Outside) (s : Status) (k : NamedPoll) (cert : Cert) (v : Verdict) → IsVerdict k cert v → Goes old new s (output_of cert v) → IsUntroubled old new s
+    → SaysValid old new s k cert ⊎ SaysRefused old new s k cert
+said old new s k cert Valid by goes untroubled = inl (says_valid old new s k cert by goes untroubled)
 said old new s k cert (No reason line) by goes untroubled = inr (record {
   reason = reason;
   line = line;
-  refusal = by.judges;
+  refusal = (by.refused reason line).0 refl;
   refused = refused_by old new s (refused_text reason line) goes untroubled;
 })
 
 judged : (old new : Outside) (s : Status) (name : List ℕ) (k : NamedPoll) (cert : Cert) → AtCheck old new s name k → IsToldCert old name cert → IsUntroubled old new s
     → SaysValid old new s k cert ⊎ SaysRefused old new s k cert
-judged old new s name k cert (inl memory) told untroubled = absurd (untroubled.memory memory)
-judged old new s name k cert (inr (inl stopped)) told untroubled = absurd (no_cert_stop old new name cert stopped.0 told untroubled.reads stopped.3)
-judged old new s name k cert (inr (inr good)) told untroubled =
-    let same = same_cert old new name cert good.0 told good.1 in
-    let v = good.2 in
-    said old new s k cert v.0 (subst (λ c. IsVerdict k c v.0) same v.1) (subst (λ c. Goes old new s (output_of c v.0)) same v.2) untroubled
+judged old new s name k cert at told untroubled =
+    let found = verdict_on old new s name k cert at told untroubled in
+    said old new s k cert found.0 found.1 found.2 untroubled
 
-is_valid : (old new : Outside) (s : Status) (k : NamedPoll) (cert : Cert) → cert.rule ≡ Plurality → IsValidCert k.poll cert → SaysValid old new s k cert ⊎ SaysRefused old new s k cert
-    → SaysValid old new s k cert
-is_valid old new s k cert known valid (inl says) = says
-is_valid old new s k cert known valid (inr says) = absurd (valid_is_taken k.poll cert says.reason says.line known valid says.refusal)
+is_valid : (old new : Outside) (s : Status) (name : List ℕ) (k : NamedPoll) (cert : Cert) → AtCheck old new s name k → IsToldCert old name cert → IsUntroubled old new s → cert.rule ≡ Plurality
+    → IsValidCert k.poll cert → SaysValid old new s k cert
+is_valid old new s name k cert at told untroubled known valid =
+    let found = verdict_on old new s name k cert at told untroubled in
+    let is : found.0 ≡ Valid = found.1.valid.1 (known, valid) in
+    says_valid old new s k cert (subst (λ v. IsVerdict k cert v) is found.1) (subst (λ v. Goes old new s (output_of cert v)) is found.2) untroubled
 
-is_refused : (old new : Outside) (s : Status) (k : NamedPoll) (cert : Cert) (reason : Reason) (line : ℕ) → IsRefusal k.poll cert reason line
-    → SaysValid old new s k cert ⊎ SaysRefused old new s k cert → IsRefused old new s (refused_text reason line)
-is_refused old new s k cert reason line refusal (inl says) = absurd (valid_is_taken k.poll cert reason line says.known says.valid refusal)
-is_refused old new s k cert reason line refusal (inr says) =
-    let one = one_refusal k.poll cert says.reason reason says.line line says.refusal refusal in
-    subst (λ l. IsRefused old new s (refused_text reason l)) one.1 (subst (λ r. IsRefused old new s (refused_text r says.line)) one.0 says.refused)
+is_refused : (old new : Outside) (s : Status) (name : List ℕ) (k : NamedPoll) (cert : Cert) (reason : Reason) (line : ℕ) → AtCheck old new s name k → IsToldCert old name cert
+    → IsUntroubled old new s → IsRefusal k.poll cert reason line → IsRefused old new s (refused_text reason line)
+is_refused old new s name k cert reason line at told untroubled refusal =
+    let found = verdict_on old new s name k cert at told untroubled in
+    let is : found.0 ≡ No reason line = (found.1.refused reason line).1 refusal in
+    refused_by old new s (refused_text reason line) (subst (λ v. Goes old new s (output_of cert v)) is found.2) untroubled
 
 -- ---- a text that is no certificate
 
@@ -148,9 +159,9 @@ accepted_cert old new s name k cert (inr (inr good)) quiet told = verdict_end ol
 pub writes_verdict : (old new : Outside) (words : List (List ℕ)) (s : Status) → Ran old new words s → WritesVerdict old new words s
 writes_verdict old new words s ran = record {
   judged = λ name k cert over told untroubled. judged old new s name k cert (at_check old new words s name k ran over) told untroubled;
-  valid = λ name k cert over told untroubled known is. is_valid old new s k cert known is (judged old new s name k cert (at_check old new words s name k ran over) told untroubled);
+  valid = λ name k cert over told untroubled known valid. is_valid old new s name k cert (at_check old new words s name k ran over) told untroubled known valid;
   refused = λ name k cert over told untroubled reason line refusal.
-      is_refused old new s k cert reason line refusal (judged old new s name k cert (at_check old new words s name k ran over) told untroubled);
+      is_refused old new s name k cert reason line (at_check old new words s name k ran over) told untroubled refusal;
   faulty = λ name bytes k fault over tells short read. faulty_cert old new s name bytes k fault (at_check old new words s name k ran over) over.reads tells short read;
   long = λ name bytes k over tells more. long_cert old new s name bytes k (at_check old new words s name k ran over) over.reads tells more;
   absent = λ name k over lacks. absent_cert old new s name k (at_check old new words s name k ran over) lacks;

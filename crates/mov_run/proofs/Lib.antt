@@ -11,7 +11,6 @@ pub mod Told
 pub mod Delivered
 pub mod Shapes
 pub mod BallotRefusals
-pub mod OneVerdict
 pub mod CertChecks
 pub mod Causes
 pub mod Promises

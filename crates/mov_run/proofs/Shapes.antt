@@ -90,7 +90,7 @@ verdict_shape src file name k cert a (No reason line) contest read by is = inr (
   job = refl;
   contest = contest;
   read = read;
-  refusal = by.judges;
+  refusal = (by.refused reason line).0 refl;
   is = is;
 })))
 

@@ -1,22 +1,25 @@
 -- Which answers a job allows.
-use Rattle.std.specs.Prelude.{◌≡◌, ◌⊎◌, ◌<◌, ◌≤◌, ℕ, List, length, Option, Result, Ok, Err}
+use Rattle.std.specs.Prelude.{◌≡◌, ◌⊎◌, ◌↔◌, ◌<◌, ◌≤◌, ℕ, List, length, Option, Result, Ok, Err}
 use Rattle.mov_edge.specs.Outside.{Named, Place, Tells, Lacks, Rose, TookMore}
 use Rattle.ballot_csv.specs.BallotFile.{NamedPoll, read_of}
 use Rattle.ballot_csv.specs.PlainForm.{plain_form}
 use Rattle.ballot_csv.specs.declared.fault.BallotFault.{BallotFault}
 use Rattle.ballot_form.specs.declared.contest.Contest.{Contest}
+use Rattle.ballot_form.specs.declared.rule.Rule.TheVariants.{Plurality}
 use Rattle.cert_text.specs.CertReading.{cert_at}
 use Rattle.cert_text.specs.CertText.{CertText}
 use Rattle.margin_solve.specs.Certificates.{IsCertOf}
 use Rattle.margin_check.specs.Meanings.{ClaimIsTrue}
-use Rattle.margin_check.specs.Verdicts.{Judges}
+use Rattle.margin_check.specs.Validity.{IsValidCert}
+use Rattle.margin_check.specs.Verdicts.{IsRefusal}
 use Rattle.mov_run.specs.Tally.{IsTally}
 use Rattle.mov_run.specs.Verdicts.{status_after, verdict_text}
 use Rattle.mov_run.specs.Words.{IsNoCommand, meaning}
 use Rattle.cert_text.specs.declared.cert.Cert.{Cert}
 use Rattle.cert_text.specs.declared.fault.CertFault.{CertFault}
 use Rattle.margin_check.specs.declared.verdict.Verdict.{Verdict}
-use Rattle.margin_check.specs.declared.verdict.Verdict.TheVariants.{Valid}
+use Rattle.margin_check.specs.declared.verdict.Reason.{Reason}
+use Rattle.margin_check.specs.declared.verdict.Verdict.TheVariants.{No, Valid}
 use Rattle.mov_run.specs.declared.jobs.Job.{Job}
 use Rattle.mov_run.specs.declared.jobs.Job.TheVariants.{Tally, Margin, Check, Show}
 use Rattle.mov_run.specs.declared.jobs.WordFault.{WordFault}
@@ -113,9 +116,10 @@ OverCert s name next a =
     ((stop : Stop) × (a ≡ Err stop) × HasNoCert s name stop)
     ⊎ ((cert : Cert) × IsCertFile s name cert × next cert a)
 
--- the verdict on a certificate, whose claim is true where it is valid
+-- the verdict on a certificate: that it is valid, and then its claim is true, or the first part of validity that fails, with its line
 pub record IsVerdict (k : NamedPoll) (cert : Cert) (verdict : Verdict) : Type 0 where
-  pub judges : Judges k.poll cert verdict
+  pub valid : (verdict ≡ Valid) ↔ ((cert.rule ≡ Plurality) × IsValidCert k.poll cert)
+  pub refused : (reason : Reason) (line : ℕ) → (verdict ≡ No reason line) ↔ IsRefusal k.poll cert reason line
   pub claim : verdict ≡ Valid → ClaimIsTrue k.poll cert
 
 -- the answer of a check: the text of the verdict

@@ -2,24 +2,13 @@
 use Rattle.std.specs.Prelude.{ℕ, List, [], ◌∷◌, ◌++◌, codes, decimal}
 use Rattle.cert_text.specs.CertText.{claim_words, line_text}
 use Rattle.cert_text.specs.declared.cert.Cert.{Cert}
-use Rattle.margin_check.specs.Verdicts.{number_of}
+use Rattle.margin_check.specs.Verdicts.{name_of, number_of}
 use Rattle.margin_check.specs.declared.verdict.Reason.{Reason}
-use Rattle.margin_check.specs.declared.verdict.Reason.TheVariants.{NotBuilt, HeadDiffers, ReportedDiffers, BadAlteration, ClaimFails, ShapeDiffers, CutFails, NumbersDisagree}
 use Rattle.margin_check.specs.declared.verdict.Verdict.{Verdict}
 use Rattle.margin_check.specs.declared.verdict.Verdict.TheVariants.{Valid, No}
 use Rattle.mov_run.specs.Tally.{rule_text}
 use Rattle.mov_run.specs.declared.runs.Status.{Status}
 use Rattle.mov_run.specs.declared.runs.Status.TheVariants.{Done, Refused}
-
-abbrev pub reason_name : Reason → List ℕ
-reason_name NotBuilt = codes "NotBuilt"
-reason_name HeadDiffers = codes "HeadDiffers"
-reason_name ReportedDiffers = codes "ReportedDiffers"
-reason_name BadAlteration = codes "BadAlteration"
-reason_name ClaimFails = codes "ClaimFails"
-reason_name ShapeDiffers = codes "ShapeDiffers"
-reason_name CutFails = codes "CutFails"
-reason_name NumbersDisagree = codes "NumbersDisagree"
 
 -- what is said of a valid certificate: its rule and its claim
 abbrev pub valid_text : Cert → List ℕ
@@ -27,7 +16,7 @@ valid_text cert = line_text (codes "VALID" ∷ []) ++ (rule_text cert.rule ++ li
 
 -- what is said of a refused one: the number and the name of the reason, and the line
 abbrev pub refused_text : Reason → ℕ → List ℕ
-refused_text reason line = line_text (codes "REFUSED" ∷ decimal (number_of reason) ∷ reason_name reason ∷ codes "line" ∷ decimal line ∷ [])
+refused_text reason line = line_text (codes "REFUSED" ∷ decimal (number_of reason) ∷ name_of reason ∷ codes "line" ∷ decimal line ∷ [])
 
 -- the text of a verdict
 abbrev pub verdict_text : Cert → Verdict → List ℕ

@@ -2,7 +2,7 @@
 ghost use Rattle.std.specs.Prelude.{◌≡◌, ◌++◌, ◌∷◌, [], IfOk, OnOk, codes, decimal};
 ghost use Rattle.cert_text.specs.CertText.{claim_words, line_text, stop_words};
 ghost use Rattle.mov_run.specs.Allowed.{AnswersOrMemory};
-ghost use Rattle.mov_run.specs.Verdicts.{reason_name as name_of, refused_text, status_after, valid_text, verdict_text as text_of};
+ghost use Rattle.mov_run.specs.Verdicts.{refused_text, status_after, valid_text, verdict_text as text_of};
 
 use crate::jobs::Job;
 use crate::loads::{load_cert, load_contest};
@@ -75,24 +75,8 @@ fn push_refused(out: &mut Vec<u8>, reason: Reason, line: u32) -> Result<(), Memo
     out.extend_from_slice(b"REFUSED")?;
     push_number(out, u64::from(reason.number()))?;
     out.push(b' ')?;
-    out.extend_from_slice(reason_name(reason).as_bytes())?;
+    out.extend_from_slice(reason.name().as_bytes())?;
     push_one(out, b" line", u64::from(line))
-}
-
-/// The name of a reason.
-fn reason_name(reason: Reason) -> &'static str
-    ensures { result.now ≡ name_of reason }
-{
-    match reason {
-        Reason::NotBuilt => "NotBuilt",
-        Reason::HeadDiffers => "HeadDiffers",
-        Reason::ReportedDiffers => "ReportedDiffers",
-        Reason::BadAlteration => "BadAlteration",
-        Reason::ClaimFails => "ClaimFails",
-        Reason::ShapeDiffers => "ShapeDiffers",
-        Reason::CutFails => "CutFails",
-        Reason::NumbersDisagree => "NumbersDisagree",
-    }
 }
 
 /// Adds the line of the claim.

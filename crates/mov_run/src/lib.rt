@@ -28,6 +28,8 @@ pub use stops::Stop;
 pub use tally::tally_text;
 
 #[cfg(test)]
+mod check_tests;
+#[cfg(test)]
 mod tally_tests;
 #[cfg(test)]
 mod tests;

@@ -19,7 +19,11 @@ const BALLOT_LIMIT: u64 = 67_108_864;
 const CERT_LIMIT: u64 = 1_073_741_824;
 
 /// Loads the contest of a ballot file.
-pub(crate) fn load_contest<F: Files>(alloc: Global, files: &mut F, name: &Text) -> Result<Contest, Stop>
+pub(crate) fn load_contest<F: Files>(
+    alloc: Global,
+    files: &mut F,
+    name: &Text,
+) -> Result<Contest, Stop>
     ensures loads { LoadsContest (record { told = F.told files.old; at = F.at files.new; before = F.faults files.old; now = F.faults files.new }) name.now result }
     ensures told { F.told files.new ≡ F.told files.old }
     ensures kept { IfOk result (λ _. F.faults files.new ≡ F.faults files.old) }
