@@ -4,7 +4,7 @@ use Rattle.std.specs.Prelude.{Ok, Err}
 use Rattle.mov_edge.specs.Outside.{Lacks, Rose, Tells}
 use Rattle.ballot_csv.specs.BallotFile.{NamedPoll, read_of}
 use Rattle.ballot_csv.specs.declared.fault.BallotFault.{BallotFault}
-use Rattle.mov_run.specs.Allowed.{Answer, HasNoCert, HasNoContest, IsContestFile, IsUnread, Source, ballot_limit}
+use Rattle.mov_run.specs.Allowed.{Answer, HasNoCert, HasNoContest, IsContestFile, IsUnread, ballot_limit}
 use Rattle.mov_run.specs.Checked.{LacksCert}
 use Rattle.mov_run.specs.Ends.{EndsWith, IsToldContest}
 use Rattle.mov_run.specs.Promised.{RefusesBallots}

@@ -1,5 +1,5 @@
 -- Each status and its cause.
-use Rattle.std.proofs.Common.{ℕ, List, ◌≡◌, ◌⊎◌, ◌∙◌, refl, sym, ap, subst, inl, inr}
+use Rattle.std.proofs.Common.{ℕ, List, ◌≡◌, ◌⊎◌, ◌∙◌, refl, ap, subst, inl, inr}
 use Rattle.std.specs.Prelude.{Ok, Err}
 use Rattle.ballot_csv.specs.declared.fault.BallotFault.{BallotFault}
 use Rattle.mov_run.specs.Allowed.{Allowed, Answer, HasNoCert, HasNoContest, IsFaultyFile, IsLong, ballot_limit}
@@ -17,7 +17,7 @@ use Rattle.mov_run.specs.declared.runs.Status.TheVariants.{Done, Refused, Words,
 use Rattle.mov_run.specs.declared.stops.Stop.{Stop}
 use Rattle.mov_run.specs.declared.stops.Stop.TheVariants as stop
 use Rattle.mov_run.proofs.Delivered.{Goes, delivered_err, delivered_ok}
-use Rattle.mov_run.proofs.Shapes.{AtBallots, AtCert, AtRefusal, AtText, JobShape, not_err, not_none, one_fault, shape}
+use Rattle.mov_run.proofs.Shapes.{AtCert, AtRefusal, JobShape, not_err, not_none, one_fault, shape}
 
 -- ---- at each status
 

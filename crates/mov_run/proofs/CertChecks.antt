@@ -1,6 +1,6 @@
 -- What a run of `check` promises.
 use Rattle.std.proofs.Common.{ℕ, List, ◌≡◌, ◌≤◌, ◌<◌, ◌⊎◌, ◌∙◌, length, refl, sym, ap, subst, inl, inr, arith}
-use Rattle.std.specs.Prelude.{Ok, Err}
+use Rattle.std.specs.Prelude.{Err}
 use Rattle.mov_edge.specs.Outside.{Lacks, Rose, Tells}
 use Rattle.ballot_csv.specs.BallotFile.{NamedPoll}
 use Rattle.ballot_form.specs.declared.rule.Rule.TheVariants.{Plurality}

@@ -1,5 +1,5 @@
 -- From what is loaded to the answer of a check.
-use Rattle.std.proofs.Common.{ℕ, List, ◌≡◌, ◌⊎◌, ◌∙◌, ap, refl, subst, sym, inl, inr}
+use Rattle.std.proofs.Common.{ℕ, List, ◌≡◌, ◌⊎◌, ◌∙◌, ap, refl, subst, inl, inr}
 use Rattle.std.specs.Prelude.{Ok, Err}
 use Rattle.mov_edge.specs.Outside.{Lacks, Tells}
 use Rattle.ballot_csv.specs.BallotFile.{NamedPoll}

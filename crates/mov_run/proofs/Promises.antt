@@ -1,5 +1,5 @@
 -- From what a run leaves to what it promises.
-use Rattle.std.proofs.Common.{ℕ, List, ◌≡◌, ◌⊎◌, inl, inr}
+use Rattle.std.proofs.Common.{ℕ, List, ◌≡◌, inl, inr}
 use Rattle.std.specs.Prelude.{Ok}
 use Rattle.ballot_csv.specs.PlainForm.{plain_form}
 use Rattle.ballot_form.specs.declared.rule.Rule.TheVariants.{Plurality}

@@ -1,5 +1,5 @@
 -- What is told, and what comes of it.
-use Rattle.std.proofs.Common.{ℕ, List, ◌≡◌, ◌≤◌, ◌<◌, ◌∙◌, Some, None, Option, sym, ap, subst, inl, inr, arith}
+use Rattle.std.proofs.Common.{ℕ, List, ◌≡◌, ◌∙◌, Some, None, Option, sym, ap, subst, inl, inr, arith}
 use Rattle.std.specs.Prelude.{Result, Ok, Err}
 use Rattle.mov_edge.specs.Outside.{Named, Lacks, Rose, Tells}
 use Rattle.ballot_csv.specs.BallotFile.{NamedPoll, read_of}

@@ -1,7 +1,7 @@
 -- What a run promises: what it leaves, and what follows from that.
 use Rattle.std.specs.Prelude.{◌≡◌, ◌⊎◌, ◌≤◌, ◌<◌, ℕ, List, codes, length, Ok, Err}
 use Rattle.mov_edge.specs.Loads.{TookFirst}
-use Rattle.mov_edge.specs.Outside.{Took, Tells, Lacks, Rose}
+use Rattle.mov_edge.specs.Outside.{Tells, Lacks, Rose}
 use Rattle.ballot_csv.specs.BallotFile.{NamedPoll, read_of}
 use Rattle.ballot_csv.specs.PlainForm.{plain_form}
 use Rattle.ballot_csv.specs.declared.fault.BallotFault.{BallotFault}
