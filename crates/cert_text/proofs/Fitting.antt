@@ -1,12 +1,12 @@
 -- The limits of a tree's lines, at each shape of a tree of the program.
-use Rattle.std.proofs.Common.{◌≡◌, ℕ, ◌≤◌, ◌<◌, ◌^◌, Bool, List, [], ◌∷◌, ◌++◌, length, map, refl, sym, ap, ◌∙◌, subst, arith}
+use Rattle.std.proofs.Common.{◌≡◌, ℕ, ◌≤◌, ◌<◌, ◌^◌, Bool, List, [], ◌∷◌, ◌++◌, length, map, sym, ap, ◌∙◌, subst, arith}
 use Rattle.std.specs.Prelude.{All, IsTrue, ◌↔◌}
 use Rattle.std.proofs.lemmas.List.Elements.{All-nil, All-cons, All-head, All-tail, All-append, All-weaker}
 use Rattle.row_program.specs.declared.Feature.{Feature}
 use Rattle.bound_tree.specs.declared.tree.Tree.{Tree}
 use Rattle.bound_tree.specs.declared.tree.Tree.TheVariants as program
-use Rattle.bound_tree.specs.Plain.{Plain, Kids, kids_of, plain_of}
-use Rattle.bound_tree.specs.Lines.{Line, SplitInto, BranchBy, CutWith, kid_count, lines_of, lines_of_all}
+use Rattle.bound_tree.specs.Plain.{kids_of, plain_of}
+use Rattle.bound_tree.specs.Lines.{SplitInto, BranchBy, CutWith, lines_of, lines_of_all}
 use Rattle.bound_tree.proofs.Shapes.{plain_Split, plain_Branch, plain_Cut}
 use Rattle.cert_text.specs.CertText.{LineFits}
 use Rattle.cert_text.proofs.Shapes.{all_left, all_right, count_of_kids}

@@ -7,22 +7,20 @@ use Rattle.std.proofs.lemmas.List.{length-map}
 use Rattle.ballot_form.specs.Rules.{IsRule}
 use Rattle.ballot_form.specs.declared.rule.Rule.{Rule}
 use Rattle.ballot_form.specs.declared.rule.Rule.TheVariants.{Plurality, Borda, Condorcet, Dhondt, Irv}
-use Rattle.ballot_form.specs.declared.outcome.Outcome.{Outcome}
-use Rattle.ballot_form.specs.declared.outcome.Outcome.TheVariants.{Winner, NoWinner, Seats}
 use Rattle.cert_words.specs.declared.numbers.LineFault.{LineFault}
 use Rattle.cert_words.specs.declared.numbers.LineFault.TheVariants.{BadLine}
-use Rattle.cert_words.specs.Forms.{number_of, both, made, alone, after, one_of, two_of, numbers_of, count_of}
+use Rattle.cert_words.specs.Forms.{number_of, both, made, alone, one_of, two_of, numbers_of, count_of}
 use Rattle.cert_words.proofs.Inverse.{guard_ok, number_takes, number_again}
-use Rattle.cert_words.proofs.Many.{IsWithin, both_ok, one_takes, one_again, two_takes, two_again, numbers_take, numbers_again, same_fields}
+use Rattle.cert_words.proofs.Many.{both_ok, one_takes, one_again, two_takes, two_again, numbers_take, numbers_again, same_fields}
 use Rattle.cert_words.proofs.Joining.{ArePlain, number_plain}
 use Rattle.cert_text.specs.declared.cert.Stop.{Stop}
 use Rattle.cert_text.specs.declared.cert.Stop.TheVariants.{Budget, Depth}
 use Rattle.cert_text.specs.declared.cert.Claim.{Claim}
 use Rattle.cert_text.specs.declared.cert.Claim.TheVariants.{Margin, Fixed, Bounds}
-use Rattle.cert_text.specs.HeadLines.{first_line, rule_of, rule_fields, rule_line, size_line, winner_of, winner_or_none_of, seats_of, outcome_of, reported_line, stop_of, bounds_of, claim_line}
-use Rattle.cert_text.specs.CertText.{rule_words, size_words, outcome_words, stop_words, claim_words, SizeFits, OutcomeFits, StopFits, ClaimFits}
+use Rattle.cert_text.specs.HeadLines.{first_line, rule_of, rule_fields, rule_line, size_line, stop_of, bounds_of, claim_line}
+use Rattle.cert_text.specs.CertText.{rule_words, size_words, stop_words, claim_words, SizeFits, StopFits, ClaimFits}
 use Rattle.cert_text.proofs.Forms.{IsForm, IsFieldForm}
-use Rattle.cert_text.proofs.Choices.{made_ok, chosen, word_is, after_ok, alone_ok, is_ok, small_take, small_within, small_plain}
+use Rattle.cert_text.proofs.Choices.{made_ok, chosen, word_is, after_ok, alone_ok, is_ok, small_take, small_within}
 
 -- ---- the first line
 

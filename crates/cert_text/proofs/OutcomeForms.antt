@@ -1,5 +1,5 @@
 -- The line of the reported outcome, by its form.
-use Rattle.std.proofs.Common.{◌≡◌, ℕ, ◌≤◌, ◌<◌, ◌^◌, Bool, true, false, cond, List, [], ◌∷◌, map, Ok, Err, refl, sym, ap, ◌∙◌, subst, arith, inl, inr}
+use Rattle.std.proofs.Common.{◌≡◌, ℕ, ◌≤◌, Bool, true, false, cond, List, [], ◌∷◌, map, Ok, refl, sym, ap, ◌∙◌, subst, arith, inl, inr}
 use Rattle.std.specs.Prelude.{codes, decimal}
 use Rattle.std.specs.Str.{bytes_eq}
 use Rattle.std.specs.List.{list_all}
@@ -8,13 +8,11 @@ use Rattle.ballot_form.specs.declared.rule.Rule.{Rule}
 use Rattle.ballot_form.specs.declared.rule.Rule.TheVariants.{Plurality, Borda, Condorcet, Dhondt, Irv}
 use Rattle.ballot_form.specs.declared.outcome.Outcome.{Outcome}
 use Rattle.ballot_form.specs.declared.outcome.Outcome.TheVariants.{Winner, NoWinner, Seats}
-use Rattle.cert_words.specs.declared.numbers.LineFault.TheVariants.{BadLine}
 use Rattle.cert_words.specs.Forms.{is_digit, number_of, made, alone, one_of, count_of}
 use Rattle.cert_words.proofs.Digits.{own}
-use Rattle.cert_words.proofs.Inverse.{number_takes, number_again}
 use Rattle.cert_words.proofs.Many.{one_takes, one_again, same_fields}
 use Rattle.cert_words.proofs.Joining.{ArePlain, number_plain}
-use Rattle.cert_text.specs.HeadLines.{winner_of, winner_or_none_of, seats_of, outcome_of, reported_line}
+use Rattle.cert_text.specs.HeadLines.{winner_of, winner_or_none_of, outcome_of, reported_line}
 use Rattle.cert_text.specs.CertText.{outcome_words, OutcomeFits}
 use Rattle.cert_text.proofs.Forms.{IsFieldForm}
 use Rattle.cert_text.proofs.Choices.{made_ok, chosen, word_is, after_ok, alone_ok, is_ok, small_plain}

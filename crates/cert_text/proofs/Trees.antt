@@ -1,5 +1,5 @@
 -- A tree that is read is the tree that was written, and a tree that was written is read again.
-use Rattle.std.proofs.Common.{◌≡◌, ℕ, zero, suc, ◌+◌, ◌<◌, ◌≤◌, true, false, cond, eqb, leb, List, [], ◌∷◌, ◌++◌, length, Ok, Err, refl, sym, ap, ◌∙◌, subst, arith, append_assoc}
+use Rattle.std.proofs.Common.{◌≡◌, ℕ, zero, suc, ◌+◌, ◌<◌, ◌≤◌, false, cond, eqb, leb, List, [], ◌∷◌, ◌++◌, length, Ok, Err, refl, sym, ap, ◌∙◌, subst, arith, append_assoc}
 use Rattle.std.specs.Prelude.{All}
 use Rattle.std.specs.List.{position}
 use Rattle.std.proofs.lemmas.Bool.{leb-false, lt-leb}
@@ -16,7 +16,7 @@ use Rattle.cert_text.specs.declared.fault.CertKind.TheVariants.{TreeEnds, TooDee
 use Rattle.cert_text.specs.Reading.{◌>>=◌, Place, fault, line_at, at_line, many_at}
 use Rattle.cert_text.specs.TreeLines.{tree_line}
 use Rattle.cert_text.specs.TreeReading.{tree_line_at, grown_at, node_at}
-use Rattle.cert_text.specs.CertText.{line_text, tree_words, tree_text, LineFits}
+use Rattle.cert_text.specs.CertText.{tree_words, tree_text, LineFits}
 use Rattle.cert_text.proofs.Growing.{Reads}
 use Rattle.cert_text.proofs.Lines.{tree_line_takes, tree_line_again, words_plain}
 use Rattle.cert_text.proofs.Cutting.{bind_ok, guard_ok, done, ok_is, at_line_ok, cut_takes, line_at_again}

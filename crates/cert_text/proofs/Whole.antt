@@ -1,6 +1,6 @@
 -- One text for each certificate, and one certificate for each text.
 use Rattle.std.proofs.Common.{◌≡◌, ℕ, ◌+◌, Bool, true, false, cond, eqb, List, [], ◌∷◌, ◌++◌, length, Option, Some, None, Result, Ok, Err, refl, sym, ap, ◌∙◌, subst, arith}
-use Rattle.std.specs.Prelude.{All, codes, IfOk, ◌↔◌}
+use Rattle.std.specs.Prelude.{codes, ◌↔◌}
 use Rattle.std.proofs.lemmas.Bool.{eqb-true}
 use Rattle.std.proofs.lemmas.List.{append-nil, nil_from_length}
 use Rattle.std.proofs.lemmas.List.Elements.{All-from_recursion, recursion_from_All}
@@ -22,7 +22,7 @@ use Rattle.cert_text.specs.HeadLines.{first_line, rule_line, size_line, reported
 use Rattle.cert_text.specs.TreeReading.{node_at}
 use Rattle.cert_text.specs.CertReading.{turn_at, body_at, cert_at, first_fault}
 use Rattle.cert_text.specs.CertText.{line_text, rule_words, size_words, outcome_words, claim_words, put_words, goal_words, goal_text, puts_text, tree_text, cert_text, SizeFits, OutcomeFits, ClaimFits, PutFits, GoalFits, TurnFits, BodyFits, IsPrintable, CertText}
-use Rattle.cert_text.proofs.Cutting.{bind_ok, ok_is, done}
+use Rattle.cert_text.proofs.Cutting.{bind_ok, ok_is}
 use Rattle.cert_text.proofs.Forms.{IsForm, line_form, form_takes, form_again, many_take, many_again}
 use Rattle.cert_text.proofs.HeadForms.{first_form, rule_form, size_form, claim_form}
 use Rattle.cert_text.proofs.OutcomeForms.{outcome_form}

@@ -1,5 +1,5 @@
 -- The lines of a tree.
-use Rattle.std.specs.Prelude.{ℕ, nat_lt, if◌then◌else◌, List, [], ◌∷◌, length, codes, Result, Ok, Err}
+use Rattle.std.specs.Prelude.{ℕ, nat_lt, if◌then◌else◌, List, [], ◌∷◌, length, codes, Result, Err}
 use Rattle.std.specs.Str.{bytes_eq}
 use Rattle.cert_words.specs.declared.numbers.LineFault.{LineFault}
 use Rattle.cert_words.specs.declared.numbers.LineFault.TheVariants.{BadLine}

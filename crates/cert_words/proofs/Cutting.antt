@@ -1,11 +1,10 @@
 -- Cutting a list at the first place of a byte.
-use Rattle.std.proofs.Common.{◌≡◌, ℕ, ◌+◌, ◌-◌, ◌<◌, ◌≤◌, Bool, true, false, cond, not, eqb, ltb, List, [], ◌∷◌, ◌++◌, length, take, drop, get_or, Option, Some, None, refl, sym, ap, ◌∙◌, arith}
+use Rattle.std.proofs.Common.{◌≡◌, ℕ, ◌+◌, ◌-◌, ◌<◌, ◌≤◌, Bool, true, false, cond, not, eqb, ltb, List, [], ◌∷◌, length, take, drop, Some, None, refl, sym, ap, ◌∙◌, arith}
 use Rattle.std.specs.List.{slice_split, count_by, position, position_or_len, onto_first}
-use Rattle.std.proofs.lemmas.Bool.{ltb-false, ltb-true, eqb-true}
+use Rattle.std.proofs.lemmas.Bool.{ltb-false, ltb-true}
 use Rattle.std.proofs.lemmas.List.Sums.{count_by-le-length}
-use Rattle.std.proofs.lemmas.List.{take_rest, drop-drop, length-drop, drop_all, append-nil, append_assoc, take-append-drop, drop_more}
+use Rattle.std.proofs.lemmas.List.{take_rest, drop-drop, length-drop}
 use Rattle.std.proofs.lemmas.List.Splits.{slice_split_first, slice_split-cons_no, length-slice_split}
-use Rattle.std.proofs.lemmas.List.Quantifiers.{position-Some}
 use Rattle.cert_words.specs.Words.{Walk, ahead, fields_of}
 
 pub some_place : (b : Bool) (n i : ℕ) → cond b (Some n) None ≡ Some i → (b ≡ true) × (n ≡ i)

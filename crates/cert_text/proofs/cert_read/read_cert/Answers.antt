@@ -1,4 +1,4 @@
-use Rattle.std.proofs.Common.{◌≡◌, Ok, Err, sym, subst, ◌∙◌}
+use Rattle.std.proofs.Common.{◌≡◌, Err, sym, subst, ◌∙◌}
 use Rattle.cert_text.specs.Reading.{Fails}
 use Rattle.cert_text.specs.CertReading.{cert_at}
 use Rattle.cert_text.proofs.Whole.{cert_takes, is_read}
