@@ -1,6 +1,6 @@
 -- The test over classes is the test of the definition, over ballots one by one and all valid new ballots.
-use Rattle.std.proofs.Common.{◌≡◌, ◌≢◌, ◌↔◌, ℕ, zero, suc, ◌+◌, ◌-◌, ◌*◌, ◌<◌, ◌≤◌, ◌==◌, List, [], ◌∷◌, Bool, true, false, cond, map, min, length, get_or, sym, refl, ap, subst, ◌∙◌, inl, inr, ◌⊎◌, arith, All}
-use Rattle.std.specs.Prelude.{ℤ, pos, ◌+ℤ◌, ◌-ℤ◌, ◌*ℤ◌, ◌<ℤ◌, ◌≤ℤ◌, IsTrue, nat_eq}
+use Rattle.std.proofs.Common.{◌≡◌, ◌≢◌, ◌↔◌, ℕ, zero, suc, ◌+◌, ◌-◌, ◌*◌, ◌<◌, ◌≤◌, ◌==◌, List, [], ◌∷◌, Bool, true, false, cond, map, min, length, get_or, sym, refl, ap, subst, ◌∙◌, inl, inr, arith, All}
+use Rattle.std.specs.Prelude.{ℤ, pos, ◌+ℤ◌, ◌-ℤ◌, ◌*ℤ◌, ◌≤ℤ◌, IsTrue, nat_eq}
 use Rattle.std.proofs.Math.IntN.{negsuc}
 use Rattle.std.proofs.lemmas.Int.{ints}
 use Rattle.std.proofs.lemmas.Bool.Decides.{Decides-eqb, nat_tests}
@@ -15,14 +15,14 @@ use Rattle.ballot_form.specs.declared.rule.Rule.TheVariants.{Plurality}
 use Rattle.row_program.specs.declared.Limit.{Limit}
 use Rattle.signature_class.specs.Classes.{IsGrouped, classes_of}
 use Rattle.signature_class.proofs.Counts.{keys_are_classes, sum-times_one}
-use Rattle.goal_rows.specs.Goals.{pair_weight, rows_of}
+use Rattle.goal_rows.specs.Goals.{pair_weight}
 use Rattle.goal_rows.specs.Races.{IsGroundOf, keys_under}
 use Rattle.goal_rows.specs.declared.goals.Goal.{Goal}
 use Rattle.goal_rows.specs.declared.goals.Goal.TheVariants.{Root, Pair}
 use Rattle.goal_rows.specs.declared.parts.Ground.{Ground}
-use Rattle.dual_bound.specs.CutTest.{AreGains, AreMultipliers, Cuts, CutsKept, IsBound, IsGain, base_of, mix}
+use Rattle.dual_bound.specs.CutTest.{AreGains, AreMultipliers, Cuts, CutsKept, IsBound, base_of, mix}
 use Rattle.dual_bound.specs.Largest.{CutsAt, IsGreatestCut, IsSmallPair, gain_under}
-use Rattle.dual_bound.specs.Nodes.{IsFeatureOf, IsGoalOf, IsNodeOf, Kept, kept_of, kept_row}
+use Rattle.dual_bound.specs.Nodes.{IsFeatureOf, IsGoalOf, IsNodeOf, Kept, kept_row}
 use Rattle.dual_bound.proofs.Sound.{gains-unique}
 
 -- ---- the gain of a ballot
@@ -47,8 +47,7 @@ pair_gains c top m g plus minus start (row ∷ rows) most_of few alone valid all
     let d : ℕ = (top + 1024) - ((plus row + 1024) - minus row) in
     let here = most_of row (all 0 row (omega arith)) in
     let low = few row in
-    let is : pos d ≡ (pos top +ℤ pos (minus row)) -ℤ pos (plus row) = omega (arith, ints) in
-    (
+    let is : pos d ≡ (pos top +ℤ pos (minus row)) -ℤ pos (plus row) = omega (arith, ints) in (
       record {
         above = λ new ok.
             let there = most_of new ok in
@@ -165,7 +164,7 @@ pub named : (rule : Rule) (p : Poll) (reported : Outcome) (node : Ground) (g l :
 named rule p reported node g l is goal_is = (
   subst (IsGoalOf p.c) goal_is is.goal,
   subst (λ goal. IsGroundOf Plurality p reported goal node.classes node.sums node.ballots node.lone) goal_is
-  (subst (λ r. IsGroundOf r p reported node.goal node.classes node.sums node.ballots node.lone) is.plurality is.values),
+      (subst (λ r. IsGroundOf r p reported node.goal node.classes node.sums node.ballots node.lone) is.plurality is.values),
 )
 
 pub pair_exact : (rule : Rule) (p : Poll) (reported : Outcome) (node : Ground) (limits : List Limit) (ls : List ℕ) (g l t : ℕ) → IsNodeOf rule p reported node → AreMultipliers node limits ls → node.goal ≡ Pair g l → t ≤ node.ballots + 1

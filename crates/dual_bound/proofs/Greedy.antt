@@ -1,11 +1,10 @@
 -- The first of the classes sorted by gain give the greatest sum.
-use Rattle.std.proofs.Common.{◌≡◌, ℕ, zero, suc, ◌+◌, ◌-◌, ◌*◌, ◌<◌, ◌≤◌, List, [], ◌∷◌, Bool, true, false, cond, max, min, ltb, leb, length, drop, get_or, drop-cons, add-one, sym, refl, ap, ◌∙◌, inl, inr, arith}
+use Rattle.std.proofs.Common.{◌≡◌, ℕ, zero, suc, ◌+◌, ◌-◌, ◌*◌, ◌<◌, ◌≤◌, List, [], ◌∷◌, min, length, drop, get_or, drop-cons, add-one, sym, refl, ap, ◌∙◌, inl, inr, arith}
 use Rattle.std.proofs.Math.Nat.{mul-le-mul_left}
 use Rattle.std.proofs.lemmas.Bool.{cases_lt}
 use Rattle.std.proofs.lemmas.Bool.Decides.{nat_tests}
-use Rattle.std.proofs.Math.IntN.{ℤ, pos, ◌+ℤ◌}
+use Rattle.std.proofs.Math.IntN.{ℤ}
 use Rattle.std.proofs.lemmas.Int.{ints}
-use lib.Signed.{◌<ℤ◌}
 use Rattle.mov_base.specs.Sums.{add_up, most}
 use Rattle.mov_base.proofs.Most.{above, reaching, most-le, most-mono, most-none, most-reached}
 use Rattle.signature_class.specs.Classes.{IsGrouped}
@@ -86,8 +85,9 @@ pub split : (k : ℕ) (ps : List (ℕ × ℕ)) (g : ℕ) → IsDescending ps →
 split k [] g down most_g some enough = absurd (omega arith)
 split k (p ∷ ps) g down most_g some enough =
     elim (cases_lt p.1 k) [
-      inl more ↦ split_on k p.1 p.0 ps g most_g.0 more (split (k - p.1) ps p.0 down.1 down.0 (omega arith) (omega arith))
-    | inr fits ↦ split_here k p.1 p.0 ps g down.0 most_g.0 some fits ]
+      | inl more ↦ split_on k p.1 p.0 ps g most_g.0 more (split (k - p.1) ps p.0 down.1 down.0 (omega arith) (omega arith))
+      | inr fits ↦ split_here k p.1 p.0 ps g down.0 most_g.0 some fits
+    ]
 
 greedy-at : (k : ℕ) (xs : List ℕ) (ps : List (ℕ × ℕ)) (g : ℕ) → IsGrouped xs ps → IsDescending ps → AllAtMost g ps →
     0 < k → k ≤ add_up (λ (p : ℕ × ℕ). p.1) ps → greedy k ps ≡ most k xs
@@ -111,10 +111,12 @@ greedy-is_most (suc k) xs (p ∷ ps) same down enough =
 -- what is cut at t is cut below
 pub CutsAt-below : (base : ℤ) (xs : List ℕ) (u t : ℕ) → u ≤ t → CutsAt base xs t → CutsAt base xs u
 CutsAt-below base xs u t le cut = elim (cases_lt 0 u) [
-    inr z ↦ inl (omega arith)
+  | inr z ↦ inl (omega arith)
   | inl some ↦ elim cut [
-      inl z ↦ inl (omega arith)
-    | inr c ↦ let m = most-mono (u - 1) (t - 1) xs (omega arith) in inr (omega (arith, ints, c)) ] ]
+    | inl z ↦ inl (omega arith)
+    | inr c ↦ let m = most-mono (u - 1) (t - 1) xs (omega arith) in inr (omega (arith, ints, c))
+  ]
+]
 
 -- ---- the loop over the classes
 -- one class more

@@ -3,3 +3,4 @@ pub mod Sorting
 pub mod Sound
 pub mod Gains
 pub mod Exact
+pub mod Sizes

@@ -1,13 +1,13 @@
 -- Where a node is cut, fewer replacements don't meet it.
-use Rattle.std.proofs.Common.{◌≡◌, ℕ, zero, suc, ◌+◌, ◌-◌, ◌*◌, ◌<◌, ◌≤◌, ◌==◌, List, [], ◌∷◌, ◌++◌, Bool, true, false, cond, max, min, map, length, sym, refl, ap, ◌∙◌, inl, inr, ◌⊎◌, arith, All}
-use Rattle.std.specs.Prelude.{ℤ, pos, ◌+ℤ◌, ◌-ℤ◌, ◌*ℤ◌, ◌<ℤ◌, ◌≤ℤ◌}
+use Rattle.std.proofs.Common.{◌≡◌, ℕ, suc, ◌+◌, ◌-◌, ◌<◌, ◌≤◌, ◌==◌, List, [], ◌∷◌, ◌++◌, Bool, true, false, cond, min, map, length, refl, inl, inr, arith, All}
+use Rattle.std.specs.Prelude.{ℤ, pos, ◌+ℤ◌, ◌-ℤ◌, ◌*ℤ◌, ◌≤ℤ◌}
 use Rattle.std.proofs.Math.IntN.{negsuc}
 use Rattle.std.proofs.lemmas.Int.{ints}
 use Rattle.mov_base.specs.Sums.{add_up, most, sum_z}
 use Rattle.mov_base.proofs.Most.{most-mono}
 use Rattle.mov_base.proofs.Signed.{distrib, sum_z-add, sum_z-scale, sum_z-zero}
 use Rattle.ballot_form.specs.Alterations.{IsAlteration, IsAlterationFrom, after_from}
-use Rattle.ballot_form.specs.Ballots.{IsValidBallot, Poll}
+use Rattle.ballot_form.specs.Ballots.{Poll}
 use Rattle.ballot_form.specs.declared.outcome.Outcome.{Outcome}
 use Rattle.ballot_form.specs.declared.rule.Rule.{Rule}
 use Rattle.row_program.specs.declared.Limit.{Limit}

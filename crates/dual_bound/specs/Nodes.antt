@@ -1,6 +1,6 @@
 -- A node is a goal with a list of limits on the replacements. Each row of the goal and each limit has a value before any replacement,
 -- and each replacement changes it by so much.
-use Rattle.std.specs.Prelude.{◌≡◌, ◌≢◌, ℕ, ◌+◌, ◌<◌, ◌==◌, List, [], ◌∷◌, ◌++◌, All, if◌then◌else◌, map, ℤ, pos, ◌+ℤ◌, ◌-ℤ◌, ◌≤ℤ◌}
+use Rattle.std.specs.Prelude.{◌≡◌, ◌≢◌, ℕ, ◌+◌, ◌<◌, ◌==◌, List, [], ◌∷◌, ◌++◌, All, if◌then◌else◌, map, ℤ, pos, ◌-ℤ◌, ◌≤ℤ◌}
 use Rattle.mov_base.specs.Sums.{add_up, sum_z}
 use Rattle.ballot_form.specs.Alterations.{after}
 use Rattle.ballot_form.specs.Ballots.{IsPoll, Poll}

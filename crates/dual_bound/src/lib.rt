@@ -14,7 +14,11 @@ mod nodes;
 mod pairs;
 mod scratch;
 
-pub use laws::{a_bound_is_one_number, a_cut_is_sound};
+pub use laws::{
+    a_bound_is_one_number, a_cut_is_sound, a_node_has_few_classes, a_reached_goal_is_of_the_contest,
+};
 pub use nodes::{bound_of, cuts};
 pub use scratch::Scratch;
 
+#[cfg(test)]
+mod tests;

@@ -38,12 +38,7 @@ pub fn cuts(
 
 /// The greatest number, up to one more than there are ballots, at which the multipliers cut the node. The scratch has room for the
 /// classes of the node. It takes no memory.
-pub fn bound_of(
-    node: &Ground,
-    limits: &[Limit],
-    multipliers: &[u64],
-    scratch: &mut Scratch,
-) -> u32
+pub fn bound_of(node: &Ground, limits: &[Limit], multipliers: &[u64], scratch: &mut Scratch) -> u32
     requires node { IsNode node.now }
     requires multipliers { AreMultipliers node.now limits.now multipliers.now }
     requires room { length node.now.classes ≤ scratch.old }

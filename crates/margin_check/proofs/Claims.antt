@@ -1,13 +1,13 @@
 -- What a certificate claims of the ballots after its replacements.
-use Rattle.std.proofs.Common.{ℕ, List, Option, Some, None, Bool, IsTrue, ◌≡◌, ◌+◌, ◌↔◌, length, refl, ap, sym, subst, arith}
+use Rattle.std.proofs.Common.{ℕ, List, Option, Some, Bool, IsTrue, ◌≡◌, ◌↔◌, refl, sym, subst}
 use Rattle.ballot_form.specs.declared.outcome.Outcome.{Outcome}
 use Rattle.ballot_form.specs.declared.rule.Rule.{Rule}
 use Rattle.goal_rows.specs.Goals.{Holds, IsComplete, rows_of}
 use Rattle.goal_rows.specs.declared.goals.Goal.{Goal}
 use Rattle.goal_rows.specs.declared.goals.Goal.TheVariants as goals
 use Rattle.cert_text.specs.declared.cert.GoalText.{GoalText}
-use Rattle.cert_text.specs.declared.cert.GoalText.TheVariants.{Order, Pair, Cover}
-use Rattle.margin_check.specs.Validity.{IsMet, named_goal}
+use Rattle.cert_text.specs.declared.cert.GoalText.TheVariants.{Pair}
+use Rattle.margin_check.specs.Validity.{IsMet}
 
 pub met_pair : (rule : Rule) (c : ℕ) (reported : Outcome) (roots : List Goal) (g l : ℕ) (text : Option GoalText) (rows : List (List ℕ)) (b : Bool) → text ≡ Some (Pair g l)
     → (IsTrue b ↔ (IsComplete roots (goals.Pair g l) × Holds (rows_of rule c reported (goals.Pair g l)) rows)) → IsTrue b ↔ IsMet rule c reported roots text rows

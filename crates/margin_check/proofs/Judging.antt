@@ -1,13 +1,13 @@
 -- What is known after each part of the judgement.
-use Rattle.std.proofs.Common.{ℕ, zero, suc, List, [], ◌∷◌, Option, Some, None, All, Bool, true, false, IsTrue, ◌≡◌, ◌≢◌, ◌<◌, ◌≤◌, ◌+◌, ◌∙◌, ◌↔◌, length, map, cond, refl, ap, sym, subst, inl, inr, arith}
-use Rattle.std.specs.Prelude.{◌==◌, IfOk, Result, Ok, Err}
+use Rattle.std.proofs.Common.{ℕ, zero, suc, List, [], ◌∷◌, Option, Some, None, All, Bool, true, false, IsTrue, ◌≡◌, ◌≢◌, ◌<◌, ◌≤◌, ◌+◌, ◌∙◌, ◌↔◌, length, cond, refl, ap, sym, subst, inl, inr, arith}
+use Rattle.std.specs.Prelude.{◌==◌, Err}
 use Rattle.std.proofs.lemmas.Bool.{false≢true}
 use Rattle.std.proofs.lemmas.List.Elements.{All-head, All-tail}
-use Rattle.ballot_form.specs.Alterations.{IsAlteration, after, after_from}
+use Rattle.ballot_form.specs.Alterations.{after, after_from}
 use Rattle.ballot_form.specs.Ballots.{Poll}
 use Rattle.ballot_form.specs.declared.outcome.Outcome.{Outcome}
 use Rattle.ballot_form.specs.declared.rule.Rule.{Rule}
-use Rattle.alteration_model.specs.Faults.{Gives, IsFirstFault, IsFirstFaultFrom, IsPutFault, pairs_of}
+use Rattle.alteration_model.specs.Faults.{Gives, IsFirstFault, IsFirstFaultFrom, IsPutFault}
 use Rattle.alteration_model.specs.declared.faults.AlterFault.{AlterFault}
 use Rattle.alteration_model.specs.declared.faults.AlterFault.TheVariants.{NumberRange, NotAscending, BadBallot, Memory}
 use Rattle.alteration_model.specs.declared.puts.Put.{Put}
@@ -16,7 +16,6 @@ use Rattle.bound_tree.specs.Plain.{Plain}
 use Rattle.goal_rows.specs.Goals.{root_goals}
 use Rattle.goal_rows.specs.Outcomes.{IsReported}
 use Rattle.goal_rows.specs.declared.goals.Goal.{Goal}
-use Rattle.goal_rows.specs.declared.goals.Goal.TheVariants as goals
 use Rattle.goal_rows.proofs.Reporting.{one_reported}
 use Rattle.cert_text.specs.CertText.{BodyFits, ClaimFits, IsPrintable}
 use Rattle.cert_text.specs.declared.cert.Cert.{Cert}
@@ -25,12 +24,12 @@ use Rattle.cert_text.specs.declared.cert.Claim.TheVariants.{Margin, Fixed, Bound
 use Rattle.cert_text.specs.declared.cert.GoalText.{GoalText}
 use Rattle.margin_check.specs.Proving.{IsShaped, Passes}
 use Rattle.margin_check.specs.Validity.{cert_visits, level_of}
-use Rattle.margin_check.specs.Verdicts.{FirstParts, IsFirstWithout, Judges, node_line, place_of, tree_line}
+use Rattle.margin_check.specs.Verdicts.{FirstParts, IsFirstWithout, Judges, place_of, tree_line}
 use Rattle.margin_check.specs.Visits.{Visit, visits}
 use Rattle.margin_check.specs.Walks.{Answers, EndsAt, IsWithin}
 use Rattle.margin_check.specs.declared.verdict.Reason.TheVariants as reasons
 use Rattle.margin_check.specs.declared.verdict.Verdict.{Verdict}
-use Rattle.margin_check.specs.declared.verdict.Verdict.TheVariants.{Valid, No}
+use Rattle.margin_check.specs.declared.verdict.Verdict.TheVariants.{No}
 use Rattle.margin_check.specs.declared.walk.Asked.TheVariants.{Cuts}
 use Rattle.margin_check.specs.declared.walk.End.{End}
 use Rattle.margin_check.specs.declared.walk.End.TheVariants.{Through, Stopped}

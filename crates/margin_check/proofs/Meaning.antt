@@ -1,16 +1,15 @@
 -- A valid certificate says what is so.
-use Rattle.std.proofs.Common.{ℕ, zero, suc, List, [], ◌∷◌, Option, Some, None, ◌≡◌, ◌<◌, ◌≤◌, ◌+◌, ◌∙◌, ◌↔◌, length, map, refl, ap, sym, subst, arith}
+use Rattle.std.proofs.Common.{ℕ, List, [], ◌∷◌, Option, Some, None, ◌≡◌, ◌≤◌, ◌+◌, ◌∙◌, length, refl, sym, subst, arith}
 use Rattle.std.proofs.lemmas.List.{length-map}
 use Rattle.ballot_form.specs.Alterations.{IsAlteration, IsAlterationFrom, after}
 use Rattle.ballot_form.specs.Ballots.{Poll}
 use Rattle.ballot_form.specs.declared.outcome.Outcome.{Outcome}
-use Rattle.ballot_form.specs.declared.rule.Rule.{Rule}
 use Rattle.ballot_form.specs.declared.rule.Rule.TheVariants.{Plurality}
 use Rattle.alteration_model.specs.Faults.{pairs_of}
 use Rattle.alteration_model.specs.declared.puts.Put.{Put}
 use Rattle.bound_tree.specs.Plain.{Plain}
 use Rattle.goal_rows.specs.Goals.{root_goals}
-use Rattle.goal_rows.specs.Margins.{IsMargin, IsUnturnable, NoneBelow, Turns}
+use Rattle.goal_rows.specs.Margins.{IsUnturnable, NoneBelow}
 use Rattle.goal_rows.specs.Outcomes.{IsReported}
 use Rattle.goal_rows.specs.declared.goals.Goal.TheVariants.{Root}
 use Rattle.goal_rows.proofs.Roots.{turning}

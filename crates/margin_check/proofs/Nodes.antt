@@ -1,7 +1,6 @@
 -- Nodes of a tree of the program: their shape, and the visits below them.
-use Rattle.std.proofs.Common.{ℕ, zero, suc, List, [], ◌∷◌, ◌++◌, Option, Some, None, All, Bool, IsTrue, ◌≡◌, ◌<◌, ◌≤◌, ◌+◌, ◌∙◌, ◌↔◌, length, map, take, drop, get_or, length-append, refl, ap, sym, subst, arith}
-use Rattle.std.specs.Prelude.{Contains, IfOk, Result, Ok, Err, option_map, sum_by, slice_get}
-use Rattle.std.proofs.Math.Seq.{drop-cons}
+use Rattle.std.proofs.Common.{ℕ, zero, suc, List, [], ◌∷◌, ◌++◌, Some, None, All, Bool, IsTrue, ◌≡◌, ◌<◌, ◌≤◌, ◌+◌, ◌∙◌, ◌↔◌, length, map, take, drop, get_or, length-append, refl, ap, sym, subst, arith}
+use Rattle.std.specs.Prelude.{Contains, IfOk, Result, Ok, Err, option_map, sum_by}
 use Rattle.std.proofs.lemmas.List.{drop_all, drop_more}
 use Rattle.std.proofs.lemmas.List.Elements.{All-append, All-contains_itself, All-cons, All-head, All-nil, All-tail}
 use Rattle.std.proofs.lemmas.Option.{slice_get_read}
@@ -21,7 +20,7 @@ use Rattle.goal_rows.specs.Goals.{IsReached, cover_of, rows_of}
 use Rattle.goal_rows.specs.declared.goals.Goal.{Goal}
 use Rattle.goal_rows.specs.declared.goals.Goal.TheVariants.{Root, Pair}
 use Rattle.dual_bound.specs.Nodes.{IsFeatureOf}
-use Rattle.margin_check.specs.Proving.{IsShapedAt, number_count}
+use Rattle.margin_check.specs.Proving.{IsShapedAt}
 use Rattle.margin_check.specs.Verdicts.{IsFirstWithout}
 use Rattle.margin_check.specs.Visits.{Visit, high_limit, kid_goals, low_limit, visits, visits_among}
 use Rattle.margin_check.specs.Walks.{Answers, AnswersAt, EndsAt}

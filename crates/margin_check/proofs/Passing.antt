@@ -1,32 +1,30 @@
 -- The cut test of a node without limits, from what its goal is before any replacement.
-use Rattle.std.proofs.Common.{ℕ, zero, suc, List, [], ◌∷◌, ◌++◌, Bool, true, false, All, IsTrue, ◌≡◌, ◌≢◌, ◌<◌, ◌≤◌, ◌+◌, ◌^◌, ◌∙◌, ◌↔◌, length, map, min, cond, refl, ap, sym, subst, arith}
+use Rattle.std.proofs.Common.{ℕ, List, [], ◌∷◌, Bool, true, false, IsTrue, ◌≡◌, ◌<◌, ◌≤◌, ◌+◌, ◌∙◌, ◌↔◌, length, map, min, cond, ap, sym, subst, arith}
 use Rattle.std.specs.Prelude.{nat_eq, Contains, ℤ}
 use Rattle.std.specs.Str.{bytes_eq}
 use Rattle.std.proofs.lemmas.List.{length-map}
-use Rattle.std.proofs.lemmas.List.Elements.{All-nil}
 use Rattle.ballot_form.specs.Ballots.{IsPoll, Poll}
 use Rattle.ballot_form.specs.declared.outcome.Outcome.{Outcome}
 use Rattle.ballot_form.specs.declared.outcome.Outcome.TheVariants.{Winner, NoWinner, Seats}
 use Rattle.ballot_form.specs.declared.rule.Rule.{Rule}
 use Rattle.ballot_form.specs.declared.rule.Rule.TheVariants.{Plurality}
-use Rattle.row_program.specs.declared.Limit.{Limit}
 use Rattle.row_program.specs.declared.Feature.{Feature}
 use Rattle.bound_tree.specs.declared.tree.Tree.{Tree}
 use Rattle.bound_tree.specs.declared.tree.Tree.TheVariants as program
-use Rattle.bound_tree.specs.Plain.{Split, Branch, Cut, plain_of}
+use Rattle.bound_tree.specs.Plain.{Cut, plain_of}
 use Rattle.bound_tree.proofs.Shapes.{plain_Split, plain_Branch, plain_Cut}
 use Rattle.margin_check.specs.Proving.{IsShapedAt, PassesAt}
 use Rattle.signature_class.specs.Classes.{add_all, add_class, classes_of}
 use Rattle.signature_class.proofs.Counts.{classes_by_kinds, regrouped}
-use Rattle.goal_rows.specs.Goals.{IsReached, root_goals, rows_of}
+use Rattle.goal_rows.specs.Goals.{IsReached, root_goals}
 use Rattle.goal_rows.specs.Outcomes.{IsReported}
-use Rattle.goal_rows.specs.Races.{IsGroundOf, IsRace, keys_under, pair_key}
+use Rattle.goal_rows.specs.Races.{IsGroundOf, IsRace, pair_key}
 use Rattle.goal_rows.specs.declared.goals.Goal.{Goal}
 use Rattle.goal_rows.specs.declared.goals.Goal.TheVariants.{Root, Pair}
 use Rattle.goal_rows.specs.declared.parts.Ground.{Ground}
 use Rattle.goal_rows.proofs.Roots.{pairs_are}
-use Rattle.dual_bound.specs.CutTest.{AreMultipliers, Cuts, CutsKept}
-use Rattle.dual_bound.specs.Nodes.{IsGoalOf, IsNode, IsNodeOf, kept_of}
+use Rattle.dual_bound.specs.CutTest.{Cuts, CutsKept}
+use Rattle.dual_bound.specs.Nodes.{IsGoalOf, IsNodeOf, kept_of}
 
 -- ---- there are at most as many classes as kinds
 

@@ -1,5 +1,5 @@
 -- Shape and cuts of all nodes are what a tree proves, and what is proved is so.
-use Rattle.std.proofs.Common.{ℕ, zero, suc, List, [], ◌∷◌, ◌++◌, Option, Some, None, All, ◌≡◌, ◌<◌, ◌≤◌, ◌+◌, ◌∙◌, ◌↔◌, length, get_or, refl, ap, sym, subst, arith}
+use Rattle.std.proofs.Common.{ℕ, zero, suc, List, [], ◌∷◌, ◌++◌, Option, Some, None, All, ◌≡◌, ◌<◌, ◌∙◌, ◌↔◌, length, refl, ap, sym, subst, arith}
 use Rattle.std.specs.Prelude.{Contains, option_map, pos, ◌≤ℤ◌}
 use Rattle.mov_base.specs.Sums.{sum_z}
 use Rattle.std.proofs.lemmas.List.Elements.{All-append, All-cons, All-head, All-nil, All-tail}
@@ -14,7 +14,6 @@ use Rattle.bound_tree.specs.Plain as tree
 use Rattle.goal_rows.specs.Goals.{Holds, IsComplete, cover_of, rows_of}
 use Rattle.goal_rows.specs.declared.goals.Goal.{Goal}
 use Rattle.goal_rows.specs.declared.goals.Goal.TheVariants.{Root, Pair}
-use Rattle.dual_bound.specs.CutTest.{Cuts}
 use Rattle.dual_bound.proofs.Sound.{sound}
 use Rattle.margin_check.specs.Proving.{IsProof, IsShaped, Passes, ProveAll, Proves}
 use Rattle.margin_check.specs.Visits.{Visit, high_limit, kid_goals, low_limit, visits, visits_among}

@@ -1,5 +1,5 @@
 -- There is one verdict on a certificate.
-use Rattle.std.proofs.Common.{ℕ, zero, suc, List, [], ◌∷◌, Option, Some, None, All, ◌≡◌, ◌<◌, ◌≤◌, ◌+◌, ◌∙◌, ◌↔◌, ◌⊎◌, length, map, refl, ap, sym, subst, inl, inr, arith}
+use Rattle.std.proofs.Common.{ℕ, zero, suc, List, [], ◌∷◌, Some, None, All, ◌≡◌, ◌<◌, ◌+◌, ◌∙◌, ◌↔◌, length, refl, ap, sym, subst, inl, inr, arith}
 use Rattle.std.proofs.lemmas.Bool.{cases_lt}
 use Rattle.std.proofs.lemmas.List.Elements.{All-head, All-tail}
 use Rattle.ballot_form.specs.Alterations.{IsAlteration, IsAlterationFrom}
@@ -13,23 +13,13 @@ use Rattle.goal_rows.specs.Goals.{root_goals}
 use Rattle.cert_text.specs.declared.cert.Cert.{Cert}
 use Rattle.margin_check.specs.Proving.{IsShaped, Passes}
 use Rattle.margin_check.specs.Validity.{IsValidCert, cert_visits, level_of}
-use Rattle.margin_check.specs.Verdicts.{Fails, FirstParts, IsFirstWithout, IsRefusal, Judges, Part, number_of, place_of}
+use Rattle.margin_check.specs.Verdicts.{Fails, FirstParts, IsFirstWithout, IsRefusal, Judges, Part, number_of, place_of, reason_at}
 use Rattle.margin_check.specs.declared.verdict.Reason.{Reason}
 use Rattle.margin_check.specs.declared.verdict.Reason.TheVariants.{NotBuilt, HeadDiffers, ReportedDiffers, BadAlteration, ClaimFails, ShapeDiffers, CutFails, NumbersDisagree}
 use Rattle.margin_check.specs.declared.verdict.Verdict.{Verdict}
 use Rattle.margin_check.specs.declared.verdict.Verdict.TheVariants.{Valid, No}
 
--- the reason with a number
-abbrev reason_at : ℕ → Reason
-reason_at zero = NotBuilt
-reason_at (suc zero) = HeadDiffers
-reason_at (suc (suc zero)) = ReportedDiffers
-reason_at (suc (suc (suc zero))) = BadAlteration
-reason_at (suc (suc (suc (suc zero)))) = ClaimFails
-reason_at (suc (suc (suc (suc (suc zero))))) = ShapeDiffers
-reason_at (suc (suc (suc (suc (suc (suc zero)))))) = CutFails
-reason_at (suc (suc (suc (suc (suc (suc (suc n))))))) = NumbersDisagree
-
+-- a reason by its number
 reason_back : (reason : Reason) → reason_at (number_of reason) ≡ reason
 reason_back NotBuilt = refl
 reason_back HeadDiffers = refl
@@ -40,22 +30,22 @@ reason_back ShapeDiffers = refl
 reason_back CutFails = refl
 reason_back NumbersDisagree = refl
 
-part_before : (i n : ℕ) (p : Poll) (cert : Cert) → i < n → FirstParts n p cert → Part i p cert
+part_before : (i n : ℕ) (p : Poll) (cert : Cert) → i < n → FirstParts n p cert → Part (reason_at i) p cert
 part_before i zero p cert lt parts = absurd (omega (arith, lt))
 part_before i (suc n) p cert lt parts = elim (cases_lt i n) [
   | inl below ↦ part_before i n p cert below parts.0
-  | inr above ↦ let same : n ≡ i = omega arith in subst (λ k. Part k p cert) same parts.1
+  | inr above ↦ let same : n ≡ i = omega arith in subst (λ k. Part (reason_at k) p cert) same parts.1
 ]
 
-part_of : (n : ℕ) (p : Poll) (cert : Cert) → cert.rule ≡ Plurality → IsValidCert p cert → Part n p cert
-part_of zero p cert is valid = is
-part_of (suc zero) p cert is valid = valid.head
-part_of (suc (suc zero)) p cert is valid = valid.reported
-part_of (suc (suc (suc zero))) p cert is valid = valid.alteration
-part_of (suc (suc (suc (suc zero)))) p cert is valid = valid.claim
-part_of (suc (suc (suc (suc (suc zero))))) p cert is valid = valid.shape
-part_of (suc (suc (suc (suc (suc (suc zero)))))) p cert is valid = valid.cuts
-part_of (suc (suc (suc (suc (suc (suc (suc n))))))) p cert is valid = valid.numbers
+part_of : (reason : Reason) (p : Poll) (cert : Cert) → cert.rule ≡ Plurality → IsValidCert p cert → Part reason p cert
+part_of NotBuilt p cert is valid = is
+part_of HeadDiffers p cert is valid = valid.head
+part_of ReportedDiffers p cert is valid = valid.reported
+part_of BadAlteration p cert is valid = valid.alteration
+part_of ClaimFails p cert is valid = valid.claim
+part_of ShapeDiffers p cert is valid = valid.shape
+part_of CutFails p cert is valid = valid.cuts
+part_of NumbersDisagree p cert is valid = valid.numbers
 
 -- ---- a part that fails doesn't hold, and fails in one line
 
@@ -80,7 +70,7 @@ one_place P (x ∷ xs) zero (suc other) is also = absurd (is also.0)
 one_place P (x ∷ xs) (suc place) zero is also = absurd (also is.0)
 one_place P (x ∷ xs) (suc place) (suc other) is also = ap suc (one_place P xs place other is.1 also.1)
 
-failing : (reason : Reason) (p : Poll) (cert : Cert) (line : ℕ) → Fails reason p cert line → Part (number_of reason) p cert → ⊥
+failing : (reason : Reason) (p : Poll) (cert : Cert) (line : ℕ) → Fails reason p cert line → Part reason p cert → ⊥
 failing NotBuilt p cert line fails part = fails.0 part
 failing HeadDiffers p cert line fails part = fails.0 part
 failing ReportedDiffers p cert line fails part = fails.0 part
@@ -108,7 +98,7 @@ one_line NumbersDisagree p cert line other a b = omega (arith, a.1, b.1)
 -- ---- one verdict
 
 earlier : (p : Poll) (cert : Cert) (reason other : Reason) (line at : ℕ) → IsRefusal p cert reason line → IsRefusal p cert other at → number_of reason < number_of other → ⊥
-earlier p cert reason other line at first second lt = failing reason p cert line first.fails (part_before (number_of reason) (number_of other) p cert lt second.before)
+earlier p cert reason other line at first second lt = failing reason p cert line first.fails (subst (λ r. Part r p cert) (reason_back reason) (part_before (number_of reason) (number_of other) p cert lt second.before))
 
 same_refusal : (p : Poll) (cert : Cert) (reason other : Reason) (line at : ℕ) → IsRefusal p cert reason line → IsRefusal p cert other at → number_of reason ≡ number_of other → No reason line ≡ No other at
 same_refusal p cert reason other line at first second same =
@@ -128,8 +118,8 @@ one_refusal p cert reason other line at first second = elim (cases_lt (number_of
 
 pub one_verdict : (p : Poll) (cert : Cert) (verdict other : Verdict) → Judges p cert verdict → Judges p cert other → verdict ≡ other
 one_verdict p cert Valid Valid first second = refl
-one_verdict p cert Valid (No reason line) first second = absurd (failing reason p cert line second.fails (part_of (number_of reason) p cert first.0 first.1))
-one_verdict p cert (No reason line) Valid first second = absurd (failing reason p cert line first.fails (part_of (number_of reason) p cert second.0 second.1))
+one_verdict p cert Valid (No reason line) first second = absurd (failing reason p cert line second.fails (part_of reason p cert first.0 first.1))
+one_verdict p cert (No reason line) Valid first second = absurd (failing reason p cert line first.fails (part_of reason p cert second.0 second.1))
 one_verdict p cert (No reason line) (No other at) first second = one_refusal p cert reason other line at first second
 
 pub judges_exactly : (p : Poll) (cert : Cert) (verdict other : Verdict) → Judges p cert verdict → (verdict ≡ other) ↔ Judges p cert other

@@ -1,5 +1,5 @@
 -- The verdict on a certificate: valid, or the first part of validity that fails, with its line.
-use Rattle.std.specs.Prelude.{◌≡◌, ℕ, zero, suc, ◌+◌, List, [], ◌∷◌, codes, length, Some}
+use Rattle.std.specs.Prelude.{◌≡◌, ℕ, zero, suc, ◌+◌, List, [], ◌∷◌, codes, length, slice_index_or, Some}
 use Rattle.ballot_form.specs.Alterations.{IsAlteration}
 use Rattle.ballot_form.specs.Ballots.{Poll}
 use Rattle.ballot_form.specs.declared.outcome.Outcome.{Outcome}
@@ -51,20 +51,27 @@ name_of CutFails = codes "CutFails"
 name_of NumbersDisagree = codes "NumbersDisagree"
 
 -- the part of validity that fails by a reason
-abbrev pub Part : ℕ → Poll → Cert → Type 0
-Part zero p cert = cert.rule ≡ Plurality
-Part (suc zero) p cert = HasSizes p cert
-Part (suc (suc zero)) p cert = IsReported cert.rule p cert.reported
-Part (suc (suc (suc zero))) p cert = IsAlteration p (pairs_of cert.puts)
-Part (suc (suc (suc (suc zero)))) p cert = IsTurned p cert
-Part (suc (suc (suc (suc (suc zero))))) p cert = HasShape p cert
-Part (suc (suc (suc (suc (suc (suc zero)))))) p cert = HasCuts p cert
-Part (suc (suc (suc (suc (suc (suc (suc n))))))) p cert = HasOrder cert.claim
+abbrev pub Part : Reason → Poll → Cert → Type 0
+Part NotBuilt p cert = cert.rule ≡ Plurality
+Part HeadDiffers p cert = HasSizes p cert
+Part ReportedDiffers p cert = IsReported cert.rule p cert.reported
+Part BadAlteration p cert = IsAlteration p (pairs_of cert.puts)
+Part ClaimFails p cert = IsTurned p cert
+Part ShapeDiffers p cert = HasShape p cert
+Part CutFails p cert = HasCuts p cert
+Part NumbersDisagree p cert = HasOrder cert.claim
 
--- the first parts of validity hold, so many
+-- the reasons in the order in which their parts are judged; the number of a reason is its place here
+abbrev pub reasons : List Reason
+reasons = NotBuilt ∷ HeadDiffers ∷ ReportedDiffers ∷ BadAlteration ∷ ClaimFails ∷ ShapeDiffers ∷ CutFails ∷ NumbersDisagree ∷ []
+
+abbrev pub reason_at : ℕ → Reason
+reason_at n = slice_index_or reasons n NumbersDisagree
+
+-- the first n parts hold
 abbrev pub FirstParts : ℕ → Poll → Cert → Type 0
 FirstParts zero p cert = Unit {0}
-FirstParts (suc n) p cert = FirstParts n p cert × Part n p cert
+FirstParts (suc n) p cert = FirstParts n p cert × Part (reason_at n) p cert
 
 -- the place of a bad replacement
 abbrev pub place_of : AlterFault → ℕ

@@ -1,6 +1,5 @@
 // Walks over the nodes of a tree.
 ghost use Rattle.std.specs.Prelude.{◌≡◌, ◌+◌, ◌<◌, ◌≤◌, ◌^◌, ◌↔◌, ℕ, [], All, IfOk, IsTrue, Some, length, option_map, map, sum_by};
-ghost use Rattle.ballot_form.specs.Ballots.{IsPoll};
 ghost use Rattle.ballot_form.specs.declared.outcome.Outcome.{Outcome as AnOutcome};
 ghost use Rattle.ballot_form.specs.declared.rule.Rule.{Rule as ARule};
 ghost use Rattle.ballot_form.specs.declared.rule.Rule.TheVariants.{Plurality};

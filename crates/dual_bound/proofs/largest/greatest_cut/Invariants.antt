@@ -1,4 +1,4 @@
-use Rattle.std.proofs.Common.{◌≡◌, ℕ, ◌+◌, ◌-◌, ◌<◌, ◌≤◌, List}
+use Rattle.std.proofs.Common.{ℕ, ◌+◌, ◌-◌, ◌<◌, ◌≤◌, List}
 use Rattle.signature_class.specs.Classes.{IsGrouped}
 use Rattle.dual_bound.specs.Largest.{CutsAt}
 use Rattle.dual_bound.proofs.largest.greatest_cut.Given as goal

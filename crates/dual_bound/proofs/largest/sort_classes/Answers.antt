@@ -1,7 +1,6 @@
-use Rattle.std.proofs.Common.{rules, ◌≡◌, ℕ, ◌+◌, ◌<◌, ◌≤◌, List, [], ◌∷◌, length, get_or, ltb, arith}
+use Rattle.std.proofs.Common.{rules, arith}
 use Rattle.std.proofs.lemmas.Bool.Decides.{nat_tests}
 use Rattle.std.proofs.lemmas.List.Sorted.{answers_always}
-use Rattle.dual_bound.specs.Largest.{IsDescending}
 use Rattle.dual_bound.proofs.Sorting.{descending_from}
 use Rattle.dual_bound.proofs.largest.sort_classes.Goals as goal
 

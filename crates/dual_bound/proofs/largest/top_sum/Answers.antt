@@ -1,4 +1,4 @@
-use Rattle.std.proofs.Common.{◌≡◌, ℕ, sym, ◌∙◌, arith}
+use Rattle.std.proofs.Common.{◌∙◌}
 use Rattle.dual_bound.proofs.Greedy.{greedy-is_most}
 use Rattle.dual_bound.proofs.largest.top_sum.Goals as goal
 

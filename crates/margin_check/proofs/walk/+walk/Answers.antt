@@ -1,4 +1,4 @@
-use Rattle.std.proofs.Common.{◌≡◌, ◌<◌, ◌∙◌, arith, length, refl, sym}
+use Rattle.std.proofs.Common.{◌<◌, ◌∙◌, arith, length, sym}
 use Rattle.margin_check.specs.Walks.{Answers}
 use Rattle.margin_check.specs.declared.walk.End.TheVariants.{Stopped, Through}
 use Rattle.margin_check.proofs.Nodes.{if_ok, kid_few, kid_stops, kid_through, none_behind, walk_over_split}
