@@ -6,4 +6,11 @@ pub mod TallyPairs
 pub mod TallySeats
 pub mod TallyRounds
 pub mod OneTally
+pub mod Loading
+pub mod Told
+pub mod Delivered
+pub mod Shapes
+pub mod BallotRefusals
+pub mod CertChecks
+pub mod Causes
 pub mod Promises

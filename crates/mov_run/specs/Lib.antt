@@ -1,6 +1,9 @@
 pub mod Tally
 pub mod Counted
 pub mod Words
+pub mod Verdicts
 pub mod Allowed
 pub mod Ran
+pub mod Ends
+pub mod Checked
 pub mod Promised

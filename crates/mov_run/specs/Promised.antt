@@ -1,7 +1,7 @@
 -- What a run promises: what it leaves, and what follows from that.
 use Rattle.std.specs.Prelude.{◌≡◌, ◌⊎◌, ◌≤◌, ◌<◌, ℕ, List, codes, length, Ok, Err}
 use Rattle.mov_edge.specs.Loads.{TookFirst}
-use Rattle.mov_edge.specs.Outside.{Took, Tells, Lacks, Rose}
+use Rattle.mov_edge.specs.Outside.{Tells, Lacks, Rose}
 use Rattle.ballot_csv.specs.BallotFile.{NamedPoll, read_of}
 use Rattle.ballot_csv.specs.PlainForm.{plain_form}
 use Rattle.ballot_csv.specs.declared.fault.BallotFault.{BallotFault}
@@ -10,9 +10,11 @@ use Rattle.ballot_form.specs.declared.rule.Rule.TheVariants.{Plurality}
 use Rattle.mov_run.specs.Allowed.{Allowed, IsFaultyFile, IsLong, ballot_limit}
 use Rattle.cert_text.specs.CertText.{CertText}
 use Rattle.margin_solve.specs.Certificates.{IsCertOf}
+use Rattle.mov_run.specs.Checked.{CertCause, ReadCause, RefusalCause, WritesVerdict, LacksCert}
+use Rattle.mov_run.specs.Ends.{EndsWith, IsDone, IsToldContest, IsUntroubled}
 use Rattle.mov_run.specs.Ran.{Outside, Ran, SaysLine, line_of, source_of}
 use Rattle.mov_run.specs.Tally.{IsTally}
-use Rattle.mov_run.specs.Words.{BallotFile, IsNoCommand, Names, meaning}
+use Rattle.mov_run.specs.Words.{BallotFile, IsNoCommand, meaning}
 use Rattle.cert_text.specs.declared.cert.Cert.{Cert}
 use Rattle.mov_run.specs.declared.jobs.Job.TheVariants.{Tally, Margin, Show}
 use Rattle.mov_run.specs.declared.jobs.WordFault.{WordFault}
@@ -20,25 +22,6 @@ use Rattle.mov_run.specs.declared.runs.Output.{Output}
 use Rattle.mov_run.specs.declared.runs.Status.{Status}
 use Rattle.mov_run.specs.declared.runs.Status.TheVariants.{Done, Bounds, Refused, Words, Ballots, Certificate, Read, Write, Memory}
 use Rattle.mov_run.specs.declared.stops.Stop.TheVariants as stop
-
--- no read and no write failed, and there was memory
-pub record IsUntroubled (old new : Outside) (s : Status) : Type 0 where
-  pub reads : Rose old.faults new.faults → ⊥
-  pub writes : Rose old.out.faults new.out.faults → ⊥
-  pub memory : s ≡ Memory → ⊥
-
--- the file is told, and its bytes are the ballot file of this contest
-pub record IsToldContest (old : Outside) (file : List ℕ) (k : NamedPoll) : Type 0 where
-  pub bytes : List ℕ
-  pub told : Tells old.told file bytes
-  pub short : length bytes ≤ ballot_limit
-  pub read : read_of bytes ≡ Ok k
-
--- the whole of this text went out, nothing else did, and all is well
-pub record IsDone (old new : Outside) (s : Status) (text : List ℕ) : Type 0 where
-  pub status : s ≡ Done
-  pub whole : Took old.out.taken new.out.taken text
-  pub quiet : new.err ≡ old.err
 
 -- the headline: `margin plurality` of a told and accepted file writes the certificate of its contest
 abbrev pub WritesMargin : Outside → Outside → List (List ℕ) → Status → Type 0
@@ -58,10 +41,6 @@ WritesPlain old new words s =
     (file : List ℕ) (k : NamedPoll) → meaning words ≡ Ok (Show file) → IsToldContest old file k → IsUntroubled old new s →
     IsDone old new s (plain_form k)
 
--- the run ended with this status and this line, or for want of memory
-abbrev pub EndsWith : Outside → Outside → Status → Status → List ℕ → Type 0
-EndsWith old new s ends line = ((s ≡ ends) × SaysLine old new line) ⊎ (s ≡ Memory)
-
 -- a job whose ballot file is told and not accepted ends with what is wrong with the file
 pub record RefusesBallots (old new : Outside) (words : List (List ℕ)) (s : Status) : Type 0 where
   pub faulty : (file bytes : List ℕ) (fault : BallotFault) → BallotFile (meaning words) file → Tells old.told file bytes → (Rose old.faults new.faults → ⊥) →
@@ -71,7 +50,7 @@ pub record RefusesBallots (old new : Outside) (words : List (List ℕ)) (s : Sta
   pub absent : (file : List ℕ) → BallotFile (meaning words) file → Lacks old.told file → (Rose old.faults new.faults → ⊥) →
       EndsWith old new s Read (line_of (stop.Read file))
   pub accepted : (file : List ℕ) (k : NamedPoll) → BallotFile (meaning words) file → IsToldContest old file k → (Rose old.faults new.faults → ⊥) →
-      (s ≡ Ballots → ⊥) × (s ≡ Read → ⊥)
+      (s ≡ Ballots → ⊥) × (s ≡ Read → LacksCert old words)
 
 -- the statuses of a run that stopped before the writing
 abbrev pub IsStop : Status → Type 0
@@ -96,21 +75,22 @@ pub record Causes (old new : Outside) (words : List (List ℕ)) (s : Status) : T
   pub ballots : s ≡ Ballots → (file : List ℕ) × BallotFile (meaning words) file
       × ((IsLong (source_of old new) file ballot_limit × SaysLine old new (line_of stop.Long))
       ⊎ ((fault : BallotFault) × IsFaultyFile (source_of old new) file fault × SaysLine old new (line_of (stop.Ballots fault))))
-  pub read : s ≡ Read → (file : List ℕ) × Names (meaning words) file × (Rose old.faults new.faults ⊎ Lacks old.told file) × SaysLine old new (line_of (stop.Read file))
+  pub certificate : s ≡ Certificate → CertCause old new words
+  pub read : s ≡ Read → ReadCause old new words
   pub write : s ≡ Write → Rose old.out.faults new.out.faults
       × ((output : Output) × Allowed (source_of old new) words (Ok output) × TookFirst old.out.taken new.out.taken output.text)
       × SaysLine old new (codes "mov: write failed\n")
   pub memory : s ≡ Memory → SaysLine old new (line_of stop.Memory)
   pub silent : IsStop s → new.out ≡ old.out
   pub quiet : IsWritten s → (new.err ≡ old.err) × (new.faults ≡ old.faults) × (new.out.faults ≡ old.out.faults)
+  pub refused : s ≡ Refused → RefusalCause old new words
   pub no_bounds : s ≡ Bounds → ⊥
-  pub no_refusal : s ≡ Refused → ⊥
-  pub no_certificate : s ≡ Certificate → ⊥
 
 pub record Promised (old new : Outside) (words : List (List ℕ)) (s : Status) : Type 0 where
   pub ran : Ran old new words s
   pub tally : WritesTally old new words s
   pub margin : WritesMargin old new words s
+  pub check : WritesVerdict old new words s
   pub show : WritesPlain old new words s
   pub refuses : RefusesBallots old new words s
   pub causes : Causes old new words s

@@ -4,6 +4,8 @@ use Rattle.mov_edge.specs.Loads.{TookFirst}
 use Rattle.mov_edge.specs.Outside.{Named, Place, Took, Rose}
 use Rattle.ballot_csv.specs.declared.fault.BallotKind.{BallotKind}
 use Rattle.ballot_csv.specs.declared.fault.BallotKind.TheVariants as kind
+use Rattle.cert_text.specs.declared.fault.CertKind.{CertKind}
+use Rattle.cert_text.specs.declared.fault.CertKind.TheVariants as cert_kind
 use Rattle.mov_run.specs.Allowed.{Allowed, Answer, Source}
 use Rattle.mov_run.specs.declared.jobs.WordFault.{WordFault}
 use Rattle.mov_run.specs.declared.jobs.WordFault.TheVariants as word
@@ -11,7 +13,7 @@ use Rattle.mov_run.specs.declared.runs.Output.{Output}
 use Rattle.mov_run.specs.declared.runs.Status.{Status}
 use Rattle.mov_run.specs.declared.runs.Status.TheVariants as status
 use Rattle.mov_run.specs.declared.stops.Stop.{Stop}
-use Rattle.mov_run.specs.declared.stops.Stop.TheVariants.{Words, Ballots, Long, Read, Memory}
+use Rattle.mov_run.specs.declared.stops.Stop.TheVariants.{Words, Ballots, Long, Certificate, LongCertificate, Read, Memory}
 
 abbrev pub word_line_of : WordFault → List ℕ
 word_line_of word.NoCommand = codes "mov: words: no command\n"
@@ -35,11 +37,22 @@ kind_text kind.UnknownName = codes "unknown name"
 kind_text kind.TooManyBallots = codes "too many ballots"
 kind_text kind.Memory = codes "out of memory"
 
+abbrev pub cert_kind_text : CertKind → List ℕ
+cert_kind_text cert_kind.BadLine = codes "bad line"
+cert_kind_text cert_kind.BadNumber = codes "bad number"
+cert_kind_text cert_kind.TooDeep = codes "too deep"
+cert_kind_text cert_kind.TreeEnds = codes "tree ends"
+cert_kind_text cert_kind.Tail = codes "tail"
+cert_kind_text cert_kind.TooManyNodes = codes "too many nodes"
+cert_kind_text cert_kind.Memory = codes "out of memory"
+
 -- the line that says why a run stopped
 abbrev pub line_of : Stop → List ℕ
 line_of (Words fault) = word_line_of fault
 line_of (Ballots fault) = codes "mov: ballots: record " ++ (decimal fault.at ++ (codes ": " ++ (kind_text fault.kind ++ codes "\n")))
 line_of Long = codes "mov: ballots: longer than 67108864 bytes\n"
+line_of (Certificate fault) = codes "mov: certificate: line " ++ (decimal fault.line ++ (codes ": " ++ (cert_kind_text fault.kind ++ codes "\n")))
+line_of LongCertificate = codes "mov: certificate: longer than 1073741824 bytes\n"
 line_of (Read name) = codes "mov: read failed: " ++ (name ++ codes "\n")
 line_of Memory = codes "mov: out of memory\n"
 
@@ -47,6 +60,8 @@ abbrev pub status_of : Stop → Status
 status_of (Words fault) = status.Words
 status_of (Ballots fault) = status.Ballots
 status_of Long = status.Ballots
+status_of (Certificate fault) = status.Certificate
+status_of LongCertificate = status.Certificate
 status_of (Read name) = status.Read
 status_of Memory = status.Memory
 

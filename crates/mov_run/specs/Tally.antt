@@ -12,22 +12,15 @@ use Rattle.condorcet_count.specs.Preferences.{pref_of}
 use Rattle.dhondt_seats.specs.Seats.{reported_seats, votes_of}
 use Rattle.goal_rows.specs.Outcomes.{IsReported}
 use Rattle.irv_count.specs.Orders.{IsOrderBy, held_count, left_after}
-use Rattle.cert_text.specs.CertText.{line_text}
+use Rattle.cert_text.specs.CertText.{line_text, rule_words}
 
 -- what is said of each of n numbers from a on, in order
 abbrev pub for_each : ℕ → ℕ → (ℕ → List ℕ) → List ℕ
 for_each a n say = flat_map say (range_with_len a n)
 
-abbrev pub rule_fields : Rule → List (List ℕ)
-rule_fields Plurality = codes "plurality" ∷ []
-rule_fields Borda = codes "borda" ∷ []
-rule_fields Condorcet = codes "condorcet" ∷ []
-rule_fields (Dhondt seats) = codes "dhondt" ∷ decimal seats ∷ []
-rule_fields Irv = codes "irv" ∷ []
-
 -- the line of the rule
 abbrev pub rule_text : Rule → List ℕ
-rule_text rule = line_text (codes "rule" ∷ rule_fields rule)
+rule_text rule = line_text (rule_words rule)
 
 abbrev pub outcome_fields : Outcome → List (List ℕ)
 outcome_fields (Winner x) = decimal x ∷ []

@@ -5,7 +5,7 @@ use Rattle.ballot_form.specs.Rules.{IsRule}
 use Rattle.ballot_form.specs.declared.rule.Rule.{Rule}
 use Rattle.ballot_form.specs.declared.rule.Rule.TheVariants.{Plurality, Borda, Condorcet, Dhondt, Irv}
 use Rattle.mov_run.specs.declared.jobs.Job.{Job}
-use Rattle.mov_run.specs.declared.jobs.Job.TheVariants.{Tally, Margin, Show}
+use Rattle.mov_run.specs.declared.jobs.Job.TheVariants.{Tally, Margin, Check, Show}
 use Rattle.mov_run.specs.declared.rules.RuleName.{RuleName}
 use Rattle.mov_run.specs.declared.rules.RuleName.TheVariants as named
 use Rattle.mov_run.specs.declared.jobs.WordFault.{WordFault}
@@ -86,6 +86,11 @@ abbrev pub margin_of : List (List ℕ) → Result Job WordFault
 margin_of (rule ∷ file ∷ []) = margin_with (rule_named rule) file
 margin_of words = Err Line
 
+-- `check`: a ballot file and a certificate file
+abbrev pub check_of : List (List ℕ) → Result Job WordFault
+check_of (file ∷ cert ∷ []) = Ok (Check file cert)
+check_of words = Err Line
+
 -- `show`: a file
 abbrev pub show_of : List (List ℕ) → Result Job WordFault
 show_of (file ∷ []) = Ok (Show file)
@@ -97,6 +102,7 @@ meaning [] = Err NoCommand
 meaning (command ∷ words) =
     if bytes_eq command (codes "tally") then tally_of words
     else if bytes_eq command (codes "margin") then margin_of words
+    else if bytes_eq command (codes "check") then check_of words
     else if bytes_eq command (codes "show") then show_of words
     else Err UnknownCommand
 
@@ -117,9 +123,6 @@ IsLawful job = Unit {0}
 abbrev pub BallotFile : Result Job WordFault → List ℕ → Type 0
 BallotFile (Ok (Tally rule file)) name = name ≡ file
 BallotFile (Ok (Margin rule file)) name = name ≡ file
+BallotFile (Ok (Check file cert)) name = name ≡ file
 BallotFile (Ok (Show file)) name = name ≡ file
 BallotFile (Err fault) name = ⊥
-
--- a file that the words name
-abbrev pub Names : Result Job WordFault → List ℕ → Type 0
-Names m name = BallotFile m name

@@ -15,6 +15,8 @@ pub enum Job {
     Tally { rule: Rule, file: Text },
     /// Find the margin of the contest in a ballot file.
     Margin { rule: Rule, file: Text },
+    /// Judge a certificate for the contest in a ballot file.
+    Check { file: Text, cert: Text },
     /// Print a ballot file in its plain form.
     Show { file: Text },
 }
@@ -70,6 +72,7 @@ fn job_of(alloc: Global, command: &str, rest: &[String]) -> Result<Job, WordFaul
     match command {
         "tally" => tally_job(alloc, rest),
         "margin" => margin_job(alloc, rest),
+        "check" => check_job(alloc, rest),
         "show" => show_job(alloc, rest),
         _ => Err(WordFault::UnknownCommand),
     }
@@ -164,6 +167,20 @@ fn known_rule(name: &str) -> Option<Rule>
     match name {
         "plurality" => Some(Rule::Plurality),
         _ => None,
+    }
+}
+
+/// The job of the words after `check`.
+fn check_job(alloc: Global, words: &[String]) -> Result<Job, WordFault>
+    ensures reads { Reads (codes "check" ∷ map string_bytes words.now) result }
+    ensures lawful { IfOk result IsLawful }
+{
+    match words {
+        [file, cert] => Ok(Job::Check {
+            file: Text::of(alloc, file.as_str())?,
+            cert: Text::of(alloc, cert.as_str())?,
+        }),
+        _ => Err(WordFault::Line),
     }
 }
 

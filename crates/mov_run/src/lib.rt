@@ -2,12 +2,14 @@
 //!
 //! `run` does all that the program does, and its contract says what a run leaves, for each command and each way to end.
 //! `tally_text` is the text of a contest's tally under a rule: its scores, pairs, votes and seats, or rounds, by the definitions of
-//! those counts, and the reported outcome; a contest has one such text. The crate stands on the outside, on the ballot file and on
-//! the crates that count and define the margin.
+//! those counts, and the reported outcome; a contest has one such text. The crate stands on the outside, on the ballot file, on
+//! certificates and their checker, and on the crates that count and define the margin.
 #![tactic(auto)]
 
+mod checks;
 mod jobs;
 mod laws;
+mod loads;
 mod rules;
 mod runs;
 mod stops;
@@ -25,6 +27,8 @@ pub use runs::{Output, Status, run};
 pub use stops::Stop;
 pub use tally::tally_text;
 
+#[cfg(test)]
+mod check_tests;
 #[cfg(test)]
 mod tally_tests;
 #[cfg(test)]

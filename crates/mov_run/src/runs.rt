@@ -1,20 +1,21 @@
 // The top call.
-ghost use Rattle.std.specs.Prelude.{◌≡◌, ◌≢◌, ◌⊎◌, List, map, string_bytes, IfOk, Ok, Err};
+ghost use Rattle.std.specs.Prelude.{◌≡◌, ◌⊎◌, map, string_bytes, IfOk};
 ghost use Rattle.ballot_form.specs.Rules.{IsRule};
-ghost use Rattle.ballot_csv.specs.declared.fault.BallotKind.TheVariants as kind;
-ghost use Rattle.mov_run.specs.Allowed.{Allowed, AnswersOrMemory, Loads, LoadsContest};
+ghost use Rattle.mov_run.specs.Allowed.{Allowed, AnswersOrMemory};
 ghost use Rattle.mov_run.specs.Ran.{Ran, Sent, number_of, status_of};
 ghost use Rattle.mov_run.specs.Promised.{Promised};
 
+use crate::checks::check_answer;
 use crate::jobs::{Job, WordFault, parse};
+use crate::loads::load_contest;
 use crate::stops::{Stop, say, say_line};
 use crate::tally::tally_text;
-use ballot_csv::{BallotFault, BallotKind, print_ballots, read_ballots};
-use ballot_form::{Contest, Rule, Text};
+use ballot_csv::print_ballots;
+use ballot_form::{Rule, Text};
 use cert_text::print_cert;
 use margin_solve::margin;
-use mov_base::{List, Memory};
-use mov_edge::{Files, LoadFault, Sink, read_whole, write_whole};
+use mov_base::List;
+use mov_edge::{Files, Sink, write_whole};
 use std::alloc::Global;
 
 /// The most nodes of a tree that a search may grow.
@@ -69,9 +70,6 @@ pub struct Output {
     pub text: List<u8>,
 }
 
-/// The most bytes of a ballot file.
-const BALLOT_LIMIT: u64 = 67_108_864;
-
 /// Does what the words ask for. The words don't contain the name of the program.
 pub fn run<F: Files, O: Sink, E: Sink>(
     alloc: Global,
@@ -117,6 +115,7 @@ fn ending(stop: &Stop) -> Status
     match stop {
         Stop::Words(_) => Status::Words,
         Stop::Ballots(_) | Stop::Long => Status::Ballots,
+        Stop::Certificate(_) | Stop::LongCertificate => Status::Certificate,
         Stop::Read { .. } => Status::Read,
         Stop::Memory => Status::Memory,
     }
@@ -145,6 +144,7 @@ fn answer<F: Files>(alloc: Global, words: &[String], files: &mut F) -> Result<Ou
     match parse(alloc, words) {
         Ok(Job::Tally { rule, file }) => tally_answer(alloc, rule, &file, files),
         Ok(Job::Margin { rule: _, file }) => margin_answer(alloc, &file, files),
+        Ok(Job::Check { file, cert }) => check_answer(alloc, &file, &cert, files),
         Ok(Job::Show { file }) => show_answer(alloc, &file, files),
         Err(WordFault::Memory) => Err(Stop::Memory),
         Err(fault) => Err(Stop::Words(fault)),
@@ -195,43 +195,4 @@ fn show_answer<F: Files>(alloc: Global, file: &Text, files: &mut F) -> Result<Ou
         ends: Status::Done,
         text: List::from_vec(print_ballots(alloc, &contest)?),
     })
-}
-
-/// Loads the contest of a ballot file.
-fn load_contest<F: Files>(alloc: Global, files: &mut F, name: &Text) -> Result<Contest, Stop>
-    ensures loads { LoadsContest (record { told = F.told files.old; at = F.at files.new; before = F.faults files.old; now = F.faults files.new }) name.now result }
-    ensures told { F.told files.new ≡ F.told files.old }
-    ensures kept { IfOk result (λ _. F.faults files.new ≡ F.faults files.old) }
-{
-    let bytes = load(alloc, files, name)?;
-    match read_ballots(alloc, bytes.as_slice()) {
-        Ok(contest) => Ok(contest),
-        Err(fault) => Err(ballot_stop(fault)),
-    }
-}
-
-/// Why a run stops at a fault of a ballot file.
-fn ballot_stop(fault: BallotFault) -> Stop
-    ensures { ((fault.kind ≡ kind.Memory) × (result ≡ Stop.Memory)) ⊎ ((fault.kind ≢ kind.Memory) × (result ≡ Stop.Ballots fault)) }
-{
-    match fault.kind {
-        BallotKind::Memory => Stop::Memory,
-        _ => Stop::Ballots(fault),
-    }
-}
-
-/// Loads a ballot file.
-fn load<F: Files>(alloc: Global, files: &mut F, name: &Text) -> Result<List<u8>, Stop>
-    ensures loads { Loads (record { told = F.told files.old; at = F.at files.new; before = F.faults files.old; now = F.faults files.new }) name.now 67108864 result }
-    ensures told { F.told files.new ≡ F.told files.old }
-    ensures kept { IfOk result (λ _. F.faults files.new ≡ F.faults files.old) }
-{
-    match read_whole(alloc, files, name.as_str(), BALLOT_LIMIT) {
-        Ok(bytes) => Ok(List::from_vec(bytes)),
-        Err(LoadFault::Failed) => Err(Stop::Read {
-            name: Text::of(alloc, name.as_str())?,
-        }),
-        Err(LoadFault::TooLong) => Err(Stop::Long),
-        Err(LoadFault::Memory) => Err(Stop::Memory),
-    }
 }

@@ -1,11 +1,12 @@
 // Why a run stops before its text is whole, and the line that says so.
 ghost use Rattle.std.specs.Prelude.{◌≡◌, ◌++◌};
-ghost use Rattle.mov_run.specs.Ran.{Says, WritesAll, kind_text, line_of, word_line_of};
+ghost use Rattle.mov_run.specs.Ran.{Says, WritesAll, cert_kind_text, kind_text, line_of, word_line_of};
 ghost use Rattle.mov_run.specs.declared.stops.Stop.TheVariants.{Memory};
 
 use crate::jobs::WordFault;
 use ballot_csv::{BallotFault, BallotKind};
 use ballot_form::Text;
+use cert_text::{CertFault, CertKind};
 use itoa::Buffer;
 use mov_base::Memory;
 use mov_edge::{Failed, Sink, write_whole};
@@ -19,6 +20,10 @@ pub enum Stop {
     Ballots(BallotFault),
     /// The ballot file is too long.
     Long,
+    /// The certificate is at fault.
+    Certificate(CertFault),
+    /// The certificate is too long.
+    LongCertificate,
     /// The file of this name could not be read.
     Read { name: Text },
     /// There was no memory.
@@ -41,6 +46,10 @@ pub(crate) fn say<E: Sink>(err: &mut E, stop: &Stop)
         Stop::Words(fault) => say_line(err, word_line(*fault).as_bytes()),
         Stop::Ballots(fault) => say_record(err, fault),
         Stop::Long => say_line(err, b"mov: ballots: longer than 67108864 bytes\n"),
+        Stop::Certificate(fault) => say_cert_line(err, fault),
+        Stop::LongCertificate => {
+            say_line(err, b"mov: certificate: longer than 1073741824 bytes\n");
+        }
         Stop::Read { name } => {
             let _ = write_three(err, b"mov: read failed: ", name.as_str().as_bytes(), b"\n");
         }
@@ -82,6 +91,21 @@ fn kind_words(kind: &BallotKind) -> &'static str
     }
 }
 
+/// The words for a fault of a certificate.
+fn cert_kind_words(kind: &CertKind) -> &'static str
+    ensures { result.now ≡ cert_kind_text kind.now }
+{
+    match kind {
+        CertKind::BadLine => "bad line",
+        CertKind::BadNumber => "bad number",
+        CertKind::TooDeep => "too deep",
+        CertKind::TreeEnds => "tree ends",
+        CertKind::Tail => "tail",
+        CertKind::TooManyNodes => "too many nodes",
+        CertKind::Memory => "out of memory",
+    }
+}
+
 /// Writes one line.
 pub(crate) fn say_line<E: Sink>(err: &mut E, line: &[u8])
     ensures { Says (E.taken err.old) (E.taken err.new) (E.faults err.old) (E.faults err.new) line.now }
@@ -97,6 +121,16 @@ fn say_record<E: Sink>(err: &mut E, fault: &BallotFault)
     let number = buffer.format(fault.at).as_bytes();
     let words = kind_words(&fault.kind).as_bytes();
     let _ = write_five(err, b"mov: ballots: record ", number, b": ", words, b"\n");
+}
+
+/// Writes the line of a fault in a certificate.
+fn say_cert_line<E: Sink>(err: &mut E, fault: &CertFault)
+    ensures { Says (E.taken err.old) (E.taken err.new) (E.faults err.old) (E.faults err.new) (line_of (Stop.Certificate fault.now)) }
+{
+    let mut buffer = Buffer::new();
+    let number = buffer.format(fault.line).as_bytes();
+    let words = cert_kind_words(&fault.kind).as_bytes();
+    let _ = write_five(err, b"mov: certificate: line ", number, b": ", words, b"\n");
 }
 
 /// Writes five pieces, one after another.

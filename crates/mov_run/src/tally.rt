@@ -52,7 +52,7 @@ fn count_of(alloc: Global, roll: &Roll, rule: Rule) -> Result<List<u8>, Memory>
 }
 
 /// Adds the line of the rule.
-fn push_rule(out: &mut Vec<u8>, rule: Rule) -> Result<(), Memory>
+pub(crate) fn push_rule(out: &mut Vec<u8>, rule: Rule) -> Result<(), Memory>
     ensures { OnOk result (out.new.items ≡ out.old.items ++ rule_text rule) }
 {
     match rule {

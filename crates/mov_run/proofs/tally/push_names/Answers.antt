@@ -1,4 +1,4 @@
-use Rattle.std.proofs.Common.{◌≡◌, ◌∙◌, arith, refl, get_or, [], length}
+use Rattle.std.proofs.Common.{◌≡◌, ◌∙◌, arith, refl, get_or, []}
 use Rattle.std.proofs.lemmas.List.{get_or_read_under}
 use Rattle.mov_run.specs.Tally.{name_text}
 use Rattle.mov_run.proofs.Ranges.{each_more}

@@ -1,4 +1,4 @@
-use Rattle.std.proofs.Common.{arith, ◌+◌, ◌-◌}
+use Rattle.std.proofs.Common.{◌+◌}
 use Rattle.condorcet_count.specs.Preferences.{count_in}
 use Rattle.mov_run.specs.Tally.{pair_text}
 use Rattle.mov_run.proofs.Ranges.{each_next}

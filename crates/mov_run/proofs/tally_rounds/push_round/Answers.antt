@@ -1,4 +1,4 @@
-use Rattle.std.proofs.Common.{rules, arith, ◌≡◌, ◌<◌, length}
+use Rattle.std.proofs.Common.{rules, arith, ◌≡◌, length}
 use Rattle.mov_run.proofs.TallyRounds.{round_in_pieces}
 use Rattle.mov_run.proofs.tally_rounds.push_round.Goals as goal
 

@@ -1,4 +1,4 @@
-use Rattle.std.proofs.Common.{rules, arith, ◌∙◌, ◌++◌, ◌<◌, ap, append-nil, length, refl, sym}
+use Rattle.std.proofs.Common.{rules, arith, ◌∙◌, ◌++◌, ◌<◌, ap, append-nil, refl, sym}
 use Rattle.irv_count.proofs.Bits.{all_left, left_without}
 use Rattle.mov_run.specs.Tally.{round_of}
 use Rattle.mov_run.proofs.Ranges.{each_more}

@@ -1,0 +1,169 @@
+-- What a run of `check` promises.
+use Rattle.std.proofs.Common.{ℕ, List, ◌≡◌, ◌≤◌, ◌<◌, ◌⊎◌, ◌∙◌, length, refl, sym, ap, subst, inl, inr, arith}
+use Rattle.std.specs.Prelude.{Err}
+use Rattle.mov_edge.specs.Outside.{Lacks, Rose, Tells}
+use Rattle.ballot_csv.specs.BallotFile.{NamedPoll}
+use Rattle.ballot_form.specs.declared.rule.Rule.TheVariants.{Plurality}
+use Rattle.cert_text.specs.CertReading.{cert_at}
+use Rattle.cert_text.specs.declared.cert.Cert.{Cert}
+use Rattle.cert_text.specs.declared.fault.CertFault.{CertFault}
+use Rattle.margin_check.specs.Validity.{IsValidCert}
+use Rattle.margin_check.specs.Verdicts.{IsRefusal}
+use Rattle.margin_check.specs.declared.verdict.Reason.{Reason}
+use Rattle.margin_check.specs.declared.verdict.Verdict.{Verdict}
+use Rattle.margin_check.specs.declared.verdict.Verdict.TheVariants.{Valid, No}
+use Rattle.mov_run.specs.Allowed.{Answers, HasNoCert, IsCertFile, IsChecked, IsVerdict, OverCert, cert_limit}
+use Rattle.mov_run.specs.Checked.{ChecksOver, IsToldCert, SaysRefused, SaysValid, WritesVerdict}
+use Rattle.mov_run.specs.Ends.{EndsWith, IsRefused, IsUntroubled}
+use Rattle.mov_run.specs.Ran.{Outside, Ran, Stopped, line_of, source_of, status_of}
+use Rattle.mov_run.specs.Verdicts.{refused_text, status_after, valid_text, verdict_text}
+use Rattle.mov_run.specs.declared.jobs.Job.TheVariants.{Check}
+use Rattle.mov_run.specs.declared.runs.Output.{Output}
+use Rattle.mov_run.specs.declared.runs.Status.{Status}
+use Rattle.mov_run.specs.declared.runs.Status.TheVariants.{Certificate, Read, Memory}
+use Rattle.mov_run.specs.declared.stops.Stop.{Stop}
+use Rattle.mov_run.specs.declared.stops.Stop.TheVariants as stop
+use Rattle.mov_run.proofs.BallotRefusals.{ends_with}
+use Rattle.mov_run.proofs.Delivered.{Goes, delivered_err, delivered_ok, done_by, memory_of, refused_by}
+use Rattle.mov_run.proofs.Told.{contest_answer, err_is, no_cert_stop, not_both, ok_or_err, same_cert}
+
+-- the output of a verdict
+abbrev output_of : Cert → Verdict → Output
+output_of cert v = record { ends = status_after v; text = verdict_text cert v }
+
+-- a run of a check over a told and accepted ballot file
+abbrev AtCheck : Outside → Outside → Status → List ℕ → NamedPoll → Type 0
+AtCheck old new s name k =
+    (s ≡ Memory)
+    ⊎ ((t : Stop) × (s ≡ status_of t) × Stopped old new t × HasNoCert (source_of old new) name t)
+    ⊎ ((cert : Cert) × IsCertFile (source_of old new) name cert × ((v : Verdict) × IsVerdict k cert v × Goes old new s (output_of cert v)))
+
+at_check : (old new : Outside) (words : List (List ℕ)) (s : Status) (name : List ℕ) (k : NamedPoll) → Ran old new words s → ChecksOver old new words name k → AtCheck old new s name k
+at_check old new words s name k ran over = elim ran.allowed [
+  | inr m ↦ inl (memory_of old new s ran.answer m.0 ran.delivered)
+  | inl by ↦
+      let answers : Answers (source_of old new) (Check over.file name) ran.answer = rw over.job at by in
+      elim (contest_answer old new over.file k (λ k a. OverCert (source_of old new) name (λ cert a. IsChecked k cert a) a) ran.answer over.contest over.reads answers) [
+        | inl stopped ↦
+            let d = delivered_err old new s ran.answer stopped.0 stopped.1 ran.delivered in
+            inr (inl (stopped.0, d.0, d.1, stopped.2))
+        | inr good ↦
+            let v = good.2 in
+            inr (inr (good.0, good.1, (v.0, v.1, delivered_ok old new s ran.answer (output_of good.0 v.0) v.2 ran.delivered)))
+      ]
+]
+
+-- ---- a certificate is judged
+
+-- a certificate that is told has a verdict, and its text went out
+verdict_on : (old new : Outside) (s : Status) (name : List ℕ) (k : NamedPoll) (cert : Cert) → AtCheck old new s name k → IsToldCert old name cert → IsUntroubled old new s
+    → (v : Verdict) × IsVerdict k cert v × Goes old new s (output_of cert v)
+verdict_on old new s name k cert (inl memory) told untroubled = absurd (untroubled.memory memory)
+verdict_on old new s name k cert (inr (inl stopped)) told untroubled = absurd (no_cert_stop old new name cert stopped.0 told untroubled.reads stopped.3)
+verdict_on old new s name k cert (inr (inr good)) told untroubled =
+    let same = same_cert old new name cert good.0 told good.1 in
+    let v = good.2 in
+    (v.0, subst (λ c. IsVerdict k c v.0) same v.1, subst (λ c. Goes old new s (output_of c v.0)) same v.2)
+
+says_valid : (old new : Outside) (s : Status) (k : NamedPoll) (cert : Cert) → IsVerdict k cert Valid → Goes old new s (output_of cert Valid) → IsUntroubled old new s → SaysValid old new s k cert
+says_valid old new s k cert by goes untroubled = record {
+  known = (by.valid.0 refl).0;
+  valid = (by.valid.0 refl).1;
+  claim = by.claim refl;
+  done = done_by old new s (valid_text cert) goes untroubled;
+}
+
+said : (old new : Outside) (s : Status) (k : NamedPoll) (cert : Cert) (v : Verdict) → IsVerdict k cert v → Goes old new s (output_of cert v) → IsUntroubled old new s
+    → SaysValid old new s k cert ⊎ SaysRefused old new s k cert
+said old new s k cert Valid by goes untroubled = inl (says_valid old new s k cert by goes untroubled)
+said old new s k cert (No reason line) by goes untroubled = inr (record {
+  reason = reason;
+  line = line;
+  refusal = (by.refused reason line).0 refl;
+  refused = refused_by old new s (refused_text reason line) goes untroubled;
+})
+
+judged : (old new : Outside) (s : Status) (name : List ℕ) (k : NamedPoll) (cert : Cert) → AtCheck old new s name k → IsToldCert old name cert → IsUntroubled old new s
+    → SaysValid old new s k cert ⊎ SaysRefused old new s k cert
+judged old new s name k cert at told untroubled =
+    let found = verdict_on old new s name k cert at told untroubled in
+    said old new s k cert found.0 found.1 found.2 untroubled
+
+is_valid : (old new : Outside) (s : Status) (name : List ℕ) (k : NamedPoll) (cert : Cert) → AtCheck old new s name k → IsToldCert old name cert → IsUntroubled old new s → cert.rule ≡ Plurality
+    → IsValidCert k.poll cert → SaysValid old new s k cert
+is_valid old new s name k cert at told untroubled known valid =
+    let found = verdict_on old new s name k cert at told untroubled in
+    let is : found.0 ≡ Valid = found.1.valid.1 (known, valid) in
+    says_valid old new s k cert (subst (λ v. IsVerdict k cert v) is found.1) (subst (λ v. Goes old new s (output_of cert v)) is found.2) untroubled
+
+is_refused : (old new : Outside) (s : Status) (name : List ℕ) (k : NamedPoll) (cert : Cert) (reason : Reason) (line : ℕ) → AtCheck old new s name k → IsToldCert old name cert
+    → IsUntroubled old new s → IsRefusal k.poll cert reason line → IsRefused old new s (refused_text reason line)
+is_refused old new s name k cert reason line at told untroubled refusal =
+    let found = verdict_on old new s name k cert at told untroubled in
+    let is : found.0 ≡ No reason line = (found.1.refused reason line).1 refusal in
+    refused_by old new s (refused_text reason line) (subst (λ v. Goes old new s (output_of cert v)) is found.2) untroubled
+
+-- ---- a text that is no certificate
+
+faulty_cert : (old new : Outside) (s : Status) (name bytes : List ℕ) (k : NamedPoll) (fault : CertFault) → AtCheck old new s name k → (Rose old.faults new.faults → ⊥) → Tells old.told name bytes
+    → length bytes ≤ cert_limit → cert_at bytes ≡ Err fault → EndsWith old new s Certificate (line_of (stop.Certificate fault))
+faulty_cert old new s name bytes k fault (inl memory) quiet tells short read = inr memory
+faulty_cert old new s name bytes k fault (inr (inr good)) quiet tells short read =
+    let same : good.1.bytes ≡ bytes = good.1.file.told bytes tells in
+    absurd (ok_or_err (cert_at bytes) good.0 fault (ap cert_at (sym same) ∙ good.1.read) read)
+faulty_cert old new s name bytes k fault (inr (inl stopped)) quiet tells short read = by stopped.0 stopped.1 stopped.2 stopped.3
+  where
+    by : (t : Stop) → s ≡ status_of t → Stopped old new t → HasNoCert (source_of old new) name t → EndsWith old new s Certificate (line_of (stop.Certificate fault))
+    by t is left (inl unread) = absurd (elim unread.1 [ inl rose ↦ quiet rose | inr lacks ↦ not_both old.told name bytes tells lacks ])
+    by t is left (inr (inl long)) = absurd (let lt = long.1.told bytes tells in omega arith)
+    by t is left (inr (inr faulty)) =
+        let same : faulty.2.bytes ≡ bytes = faulty.2.file.told bytes tells in
+        let one : faulty.0 ≡ fault = err_is (cert_at bytes) faulty.0 fault (ap cert_at (sym same) ∙ faulty.2.read) read in
+        ends_with old new s t (stop.Certificate fault) Certificate is left (faulty.1 ∙ ap stop.Certificate one) refl
+
+long_cert : (old new : Outside) (s : Status) (name bytes : List ℕ) (k : NamedPoll) → AtCheck old new s name k → (Rose old.faults new.faults → ⊥) → Tells old.told name bytes
+    → cert_limit < length bytes → EndsWith old new s Certificate (line_of stop.LongCertificate)
+long_cert old new s name bytes k (inl memory) quiet tells more = inr memory
+long_cert old new s name bytes k (inr (inr good)) quiet tells more =
+    absurd (let same : good.1.bytes ≡ bytes = good.1.file.told bytes tells in let le : length bytes ≤ cert_limit = rw (← same) good.1.file.within in omega arith)
+long_cert old new s name bytes k (inr (inl stopped)) quiet tells more = by stopped.0 stopped.1 stopped.2 stopped.3
+  where
+    by : (t : Stop) → s ≡ status_of t → Stopped old new t → HasNoCert (source_of old new) name t → EndsWith old new s Certificate (line_of stop.LongCertificate)
+    by t is left (inl unread) = absurd (elim unread.1 [ inl rose ↦ quiet rose | inr lacks ↦ not_both old.told name bytes tells lacks ])
+    by t is left (inr (inl long)) = ends_with old new s t stop.LongCertificate Certificate is left long.0 refl
+    by t is left (inr (inr faulty)) = absurd (let same : faulty.2.bytes ≡ bytes = faulty.2.file.told bytes tells in let le : length bytes ≤ cert_limit = rw (← same) faulty.2.file.within in omega arith)
+
+absent_cert : (old new : Outside) (s : Status) (name : List ℕ) (k : NamedPoll) → AtCheck old new s name k → Lacks old.told name → EndsWith old new s Read (line_of (stop.Read name))
+absent_cert old new s name k (inl memory) lacks = inr memory
+absent_cert old new s name k (inr (inr good)) lacks = absurd (good.1.file.there lacks)
+absent_cert old new s name k (inr (inl stopped)) lacks = by stopped.0 stopped.1 stopped.2 stopped.3
+  where
+    by : (t : Stop) → s ≡ status_of t → Stopped old new t → HasNoCert (source_of old new) name t → EndsWith old new s Read (line_of (stop.Read name))
+    by t is left (inl unread) = ends_with old new s t (stop.Read name) Read is left unread.0 refl
+    by t is left (inr (inl long)) = absurd (long.1.there lacks)
+    by t is left (inr (inr faulty)) = absurd (faulty.2.file.there lacks)
+
+-- ---- a text that is one
+
+verdict_end : (old new : Outside) (s : Status) (cert : Cert) (v : Verdict) → Goes old new s (output_of cert v) → (s ≡ Certificate → ⊥) × (s ≡ Read → ⊥)
+verdict_end old new s cert Valid (inl w) = (λ e. absurd (let is = w.0 in cc), λ e. absurd (let is = w.0 in cc))
+verdict_end old new s cert (No reason line) (inl w) = (λ e. absurd (let is = w.0 in cc), λ e. absurd (let is = w.0 in cc))
+verdict_end old new s cert v (inr c) = (λ e. absurd (let is = c.0 in cc), λ e. absurd (let is = c.0 in cc))
+
+accepted_cert : (old new : Outside) (s : Status) (name : List ℕ) (k : NamedPoll) (cert : Cert) → AtCheck old new s name k → (Rose old.faults new.faults → ⊥) → IsToldCert old name cert
+    → (s ≡ Certificate → ⊥) × (s ≡ Read → ⊥)
+accepted_cert old new s name k cert (inl memory) quiet told = (λ e. absurd (cc), λ e. absurd (cc))
+accepted_cert old new s name k cert (inr (inl stopped)) quiet told = absurd (no_cert_stop old new name cert stopped.0 told quiet stopped.3)
+accepted_cert old new s name k cert (inr (inr good)) quiet told = verdict_end old new s good.0 good.2.0 good.2.2
+
+pub writes_verdict : (old new : Outside) (words : List (List ℕ)) (s : Status) → Ran old new words s → WritesVerdict old new words s
+writes_verdict old new words s ran = record {
+  judged = λ name k cert over told untroubled. judged old new s name k cert (at_check old new words s name k ran over) told untroubled;
+  valid = λ name k cert over told untroubled known valid. is_valid old new s name k cert (at_check old new words s name k ran over) told untroubled known valid;
+  refused = λ name k cert over told untroubled reason line refusal.
+      is_refused old new s name k cert reason line (at_check old new words s name k ran over) told untroubled refusal;
+  faulty = λ name bytes k fault over tells short read. faulty_cert old new s name bytes k fault (at_check old new words s name k ran over) over.reads tells short read;
+  long = λ name bytes k over tells more. long_cert old new s name bytes k (at_check old new words s name k ran over) over.reads tells more;
+  absent = λ name k over lacks. absent_cert old new s name k (at_check old new words s name k ran over) lacks;
+  accepted = λ name k cert over told. accepted_cert old new s name k cert (at_check old new words s name k ran over) over.reads told;
+}

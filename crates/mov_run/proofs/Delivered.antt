@@ -1,0 +1,35 @@
+-- What is delivered.
+use Rattle.std.proofs.Common.{ℕ, List, ◌≡◌, ◌⊎◌, inl, inr}
+use Rattle.std.specs.Prelude.{Ok, Err}
+use Rattle.mov_run.specs.Allowed.{Answer}
+use Rattle.mov_run.specs.Ends.{IsDone, IsRefused, IsUntroubled}
+use Rattle.mov_run.specs.Ran.{CutShort, Delivers, Outside, Stopped, Wrote, status_of}
+use Rattle.mov_run.specs.declared.runs.Output.{Output}
+use Rattle.mov_run.specs.declared.runs.Status.{Status}
+use Rattle.mov_run.specs.declared.runs.Status.TheVariants.{Done, Refused, Write, Memory}
+use Rattle.mov_run.specs.declared.stops.Stop.{Stop}
+use Rattle.mov_run.specs.declared.stops.Stop.TheVariants as stop
+
+-- a text was written whole with its status, or cut short
+abbrev pub Goes : Outside → Outside → Status → Output → Type 0
+Goes old new s o = ((s ≡ o.ends) × Wrote old new o.text) ⊎ ((s ≡ Write) × CutShort old new o.text)
+
+pub delivered_ok : (old new : Outside) (s : Status) (a : Answer) (o : Output) → a ≡ Ok o → Delivers old new a s → Goes old new s o
+delivered_ok old new s a o is d = rw is at d
+
+pub delivered_err : (old new : Outside) (s : Status) (a : Answer) (t : Stop) → a ≡ Err t → Delivers old new a s → (s ≡ status_of t) × Stopped old new t
+delivered_err old new s a t is d = rw is at d
+
+pub memory_of : (old new : Outside) (s : Status) (a : Answer) → a ≡ Err stop.Memory → Delivers old new a s → s ≡ Memory
+memory_of old new s a is d = (delivered_err old new s a stop.Memory is d).0
+
+pub done_by : (old new : Outside) (s : Status) (text : List ℕ) → Goes old new s (record { ends = Done; text = text }) → IsUntroubled old new s → IsDone old new s text
+done_by old new s text (inl w) untroubled = record { status = w.0; whole = w.1.whole; quiet = w.1.quiet }
+done_by old new s text (inr c) untroubled = absurd (untroubled.writes c.1.rose)
+
+pub refused_by : (old new : Outside) (s : Status) (text : List ℕ) → Goes old new s (record { ends = Refused; text = text }) → IsUntroubled old new s → IsRefused old new s text
+refused_by old new s text (inl w) untroubled = record { status = w.0; whole = w.1.whole; quiet = w.1.quiet }
+refused_by old new s text (inr c) untroubled = absurd (untroubled.writes c.1.rose)
+
+pub done_of : (old new : Outside) (s : Status) (a : Answer) (text : List ℕ) → a ≡ Ok (record { ends = Done; text = text }) → Delivers old new a s → IsUntroubled old new s → IsDone old new s text
+done_of old new s a text is d untroubled = done_by old new s text (delivered_ok old new s a (record { ends = Done; text = text }) is d) untroubled

@@ -1,0 +1,29 @@
+-- The text of a verdict on a certificate, and the status that it ends with.
+use Rattle.std.specs.Prelude.{ℕ, List, [], ◌∷◌, ◌++◌, codes, decimal}
+use Rattle.cert_text.specs.CertText.{claim_words, line_text}
+use Rattle.cert_text.specs.declared.cert.Cert.{Cert}
+use Rattle.margin_check.specs.Verdicts.{name_of, number_of}
+use Rattle.margin_check.specs.declared.verdict.Reason.{Reason}
+use Rattle.margin_check.specs.declared.verdict.Verdict.{Verdict}
+use Rattle.margin_check.specs.declared.verdict.Verdict.TheVariants.{Valid, No}
+use Rattle.mov_run.specs.Tally.{rule_text}
+use Rattle.mov_run.specs.declared.runs.Status.{Status}
+use Rattle.mov_run.specs.declared.runs.Status.TheVariants.{Done, Refused}
+
+-- what is said of a valid certificate: its rule and its claim
+abbrev pub valid_text : Cert → List ℕ
+valid_text cert = line_text (codes "VALID" ∷ []) ++ (rule_text cert.rule ++ line_text (claim_words cert.claim))
+
+-- what is said of a refused one: the number and the name of the reason, and the line
+abbrev pub refused_text : Reason → ℕ → List ℕ
+refused_text reason line = line_text (codes "REFUSED" ∷ decimal (number_of reason) ∷ name_of reason ∷ codes "line" ∷ decimal line ∷ [])
+
+-- the text of a verdict
+abbrev pub verdict_text : Cert → Verdict → List ℕ
+verdict_text cert Valid = valid_text cert
+verdict_text cert (No reason line) = refused_text reason line
+
+-- the status of a run that wrote it whole
+abbrev pub status_after : Verdict → Status
+status_after Valid = Done
+status_after (No reason line) = Refused

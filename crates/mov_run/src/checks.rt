@@ -1,0 +1,106 @@
+// The check of a certificate, and the text of its verdict.
+ghost use Rattle.std.specs.Prelude.{◌≡◌, ◌++◌, ◌∷◌, [], IfOk, OnOk, codes, decimal};
+ghost use Rattle.cert_text.specs.CertText.{claim_words, line_text, stop_words};
+ghost use Rattle.mov_run.specs.Allowed.{AnswersOrMemory};
+ghost use Rattle.mov_run.specs.Verdicts.{refused_text, status_after, valid_text, verdict_text as text_of};
+
+use crate::jobs::Job;
+use crate::loads::{load_cert, load_contest};
+use crate::runs::{Output, Status};
+use crate::stops::Stop;
+use crate::tally::push_rule;
+use crate::text::{push_number, push_one};
+use ballot_form::Text;
+use cert_text::{Cert, Claim};
+use margin_check::{Reason, Verdict, check};
+use mov_base::{List, Memory};
+use mov_edge::Files;
+use std::alloc::Global;
+
+/// The verdict on the certificate in a file, for the contest in a ballot file.
+pub(crate) fn check_answer<F: Files>(
+    alloc: Global,
+    file: &Text,
+    cert: &Text,
+    files: &mut F,
+) -> Result<Output, Stop>
+    ensures answers { AnswersOrMemory (record { told = F.told files.old; at = F.at files.new; before = F.faults files.old; now = F.faults files.new }) (Job.Check file.now cert.now) result }
+    ensures told { F.told files.new ≡ F.told files.old }
+    ensures kept { IfOk result (λ _. F.faults files.new ≡ F.faults files.old) }
+{
+    let contest = load_contest(alloc, files, file)?;
+    let cert = load_cert(alloc, files, cert)?;
+    let verdict = check(alloc, &contest, &cert)?;
+    Ok(Output {
+        ends: verdict_status(verdict),
+        text: verdict_text(alloc, &cert, verdict)?,
+    })
+}
+
+/// The status of a run that wrote the verdict whole.
+fn verdict_status(verdict: Verdict) -> Status
+    ensures { result ≡ status_after verdict }
+{
+    match verdict {
+        Verdict::Valid => Status::Done,
+        Verdict::No { .. } => Status::Refused,
+    }
+}
+
+/// The text of a verdict on a certificate.
+fn verdict_text(alloc: Global, cert: &Cert, verdict: Verdict) -> Result<List<u8>, Memory>
+    ensures { IfOk result (λ text. text ≡ text_of cert.now verdict) }
+{
+    let mut out = Vec::new(alloc);
+    match verdict {
+        Verdict::Valid => push_valid(&mut out, cert)?,
+        Verdict::No { reason, line } => push_refused(&mut out, reason, line)?,
+    }
+    Ok(List::from_vec(out))
+}
+
+/// Adds what is said of a valid certificate: its rule and its claim.
+fn push_valid(out: &mut Vec<u8>, cert: &Cert) -> Result<(), Memory>
+    ensures { OnOk result (out.new.items ≡ out.old.items ++ valid_text cert.now) }
+{
+    out.extend_from_slice(b"VALID\n")?;
+    push_rule(out, cert.rule)?;
+    push_claim(out, cert.claim)
+}
+
+/// Adds what is said of a refused certificate: the number and the name of the reason, and the line.
+fn push_refused(out: &mut Vec<u8>, reason: Reason, line: u32) -> Result<(), Memory>
+    ensures { OnOk result (out.new.items ≡ out.old.items ++ refused_text reason line) }
+{
+    out.extend_from_slice(b"REFUSED")?;
+    push_number(out, u64::from(reason.number()))?;
+    out.push(b' ')?;
+    out.extend_from_slice(reason.name().as_bytes())?;
+    push_one(out, b" line", u64::from(line))
+}
+
+/// Adds the line of the claim.
+fn push_claim(out: &mut Vec<u8>, claim: Claim) -> Result<(), Memory>
+    ensures { OnOk result (out.new.items ≡ out.old.items ++ line_text (claim_words claim)) }
+{
+    match claim {
+        Claim::Margin(k) => push_one(out, b"margin", u64::from(k))?,
+        Claim::Fixed => out.extend_from_slice(b"fixed\n")?,
+        Claim::Bounds { low, up, stop } => push_bounds(out, low, up, stop)?,
+    }
+    Ok(())
+}
+
+/// Adds the line of two bounds.
+fn push_bounds(out: &mut Vec<u8>, low: u32, up: u32, stop: cert_text::Stop) -> Result<(), Memory>
+    ensures { OnOk result (out.new.items ≡ out.old.items ++ line_text (codes "bounds" ∷ decimal low ∷ decimal up ∷ stop_words stop)) }
+{
+    out.extend_from_slice(b"bounds")?;
+    push_number(out, u64::from(low))?;
+    push_number(out, u64::from(up))?;
+    match stop {
+        cert_text::Stop::Budget(nodes) => push_one(out, b" budget", u64::from(nodes))?,
+        cert_text::Stop::Depth => out.extend_from_slice(b" depth\n")?,
+    }
+    Ok(())
+}
