@@ -86,8 +86,9 @@ fn verdicts_on_certificates(rt: HostRuntime) -> Result<(), Fail> {
 #[test]
 fn the_first_fault_decides(rt: HostRuntime) -> Result<(), Fail> {
     let check: &[&str] = &["check", "F", "C"];
-    let two_spaces: &[u8] = b"movcert 1\nrule  plurality\n";
-    let table: [(&[&str], &[u8], &[u8], u8, &[u8]); 7] = [
+    let two_spaces: &[u8] =
+        b"movcert 1\nrule  plurality\nsize 2 7\nreported 0\nmargin 2\ngoal pair 1 0\nput 1 1\nput 2 1\nsplit 1\ncut 1\n";
+    let table: [(&[&str], &[u8], &[u8], u8, &[u8]); 8] = [
         (
             check,
             FIVE_TWO,
@@ -98,9 +99,16 @@ fn the_first_fault_decides(rt: HostRuntime) -> Result<(), Fail> {
         (
             check,
             FIVE_TWO,
-            b"movcert 1\nrule plurality\nsize 2 7\nreported 0\nfixed\nsplit 0\ncut 1\n",
+            b"movcert 1\nrule plurality\nsize 2 7\nreported 0\nmargin 02\ngoal pair 1 0\nput 1 1\nput 2 1\nsplit 1\ncut 1\n",
             5,
-            b"mov: certificate: line 7: tail\n",
+            b"mov: certificate: line 5: bad number\n",
+        ),
+        (
+            check,
+            FIVE_TWO,
+            b"movcert 1\nrule plurality\nsize 2 7\nreported 0\nmargin 2\ngoal pair 1 0\nput 1 1\nput 2 1\nsplit 1\ncut 1\ncut 1\n",
+            5,
+            b"mov: certificate: line 11: tail\n",
         ),
         (
             check,
