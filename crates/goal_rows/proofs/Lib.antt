@@ -4,5 +4,6 @@ pub mod Chosen
 pub mod Bounds
 pub mod Nearest
 pub mod Roots
+pub mod Ways
 pub mod Levels
 pub mod Classed

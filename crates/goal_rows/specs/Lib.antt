@@ -3,3 +3,4 @@ pub mod Margins
 pub mod Pairs
 pub mod Goals
 pub mod Races
+pub mod Ways

@@ -7,6 +7,7 @@ use Rattle.goal_rows.specs.Margins.{Turns}
 use Rattle.goal_rows.specs.Outcomes.{IsReported}
 use Rattle.goal_rows.specs.declared.goals.Goal.{Goal}
 use Rattle.goal_rows.proofs.Roots.{turning}
+use Rattle.goal_rows.proofs.Ways.{ArePairs, held_before, reached_once, roots_once}
 use Rattle.goal_rows.proofs.races.race.Goals as goal
 
 pub returns-clause-turning : goal.returns-clause-turning
@@ -18,3 +19,13 @@ returns-clause-turning c =
     (subst (λ gs. Turns Plurality c.args.roll.now changes
     ↔ ((goal : Goal) × IsComplete gs goal × Holds (rows_of Plurality c.args.roll.now.c c.in_ok-reported.reported goal) (after c.args.roll.now changes).rows)) (sym roots)
     (turning c.args.roll.now c.in_ok-reported.reported changes is))
+
+pub returns-clause-once : goal.returns-clause-once
+returns-clause-once c =
+    let roots = c.in_ok-roots.ensures ∙ ap (λ n. root_goals Plurality n c.in_ok-reported.reported) c.candidates.ensures.value in
+    let are = subst ArePairs (sym roots) (roots_once c.args.roll.now.c c.in_ok-reported.reported) in
+    λ goal complete. reached_once c.in_ok-roots.roots goal are complete
+
+pub returns-clause-on_the_way : goal.returns-clause-on_the_way
+returns-clause-on_the_way c = λ goal between way rows leads holds.
+    held_before c.args.rule c.args.roll.now.c c.in_ok-reported.reported c.in_ok-roots.roots goal between way rows leads holds
