@@ -92,7 +92,7 @@ fresh votes shares parties none = (
 )
 
 -- what is at most a level between two is at most the other one
-between : (vb sb va sa vn sn : ℕ) → 1 ≤ sn → vb * sn ≤ vn * sb → vn * sa ≤ va * sn → vb * sa ≤ va * sb
+pub between : (vb sb va sa vn sn : ℕ) → 1 ≤ sn → vb * sn ≤ vn * sb → vn * sa ≤ va * sn → vb * sa ≤ va * sb
 between vb sb va sa vn sn some low high =
     let x = mul-le-mul_left sa low in
     let y = mul-le-mul_left sb high in

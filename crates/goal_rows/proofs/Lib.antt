@@ -5,5 +5,6 @@ pub mod Bounds
 pub mod Nearest
 pub mod Roots
 pub mod Ways
+pub mod SeatMoves
 pub mod Levels
 pub mod Classed

@@ -4,3 +4,4 @@ pub mod Pairs
 pub mod Goals
 pub mod Races
 pub mod Ways
+pub mod SeatGains

@@ -1,5 +1,5 @@
 // What follows from the definitions.
-ghost use Rattle.std.specs.Prelude.{◌≡◌, ◌↔◌, ◌+◌, ◌≤◌, ℕ, List, length};
+ghost use Rattle.std.specs.Prelude.{◌≡◌, ◌≢◌, ◌↔◌, ◌+◌, ◌≤◌, ℕ, List, length};
 ghost use Rattle.mov_base.specs.Sums.{add_up};
 ghost use Rattle.ballot_form.specs.Alterations.{IsAlteration, after};
 ghost use Rattle.ballot_form.specs.Ballots.{IsValidBallot, Poll};
@@ -10,6 +10,8 @@ ghost use Rattle.ballot_form.specs.declared.outcome.Outcome.TheVariants.{Winner}
 ghost use Rattle.ballot_form.specs.declared.rule.Rule.TheVariants.{Plurality};
 ghost use Rattle.goal_rows.specs.Outcomes.{IsReported};
 ghost use Rattle.goal_rows.specs.Pairs.{IsLevel, Reaches};
+ghost use Rattle.goal_rows.specs.SeatGains.{IsSeatGain};
+ghost use Rattle.dhondt_seats.specs.Seats.{IsAllocation, seats_in_all};
 
 /// There is one reported outcome at most.
 pub fn a_reported_outcome_is_one()
@@ -34,4 +36,11 @@ pub fn replacements_bring_at_most_the_largest_gains()
     ensures { (top : ℕ) (plus minus : List ℕ → ℕ) (p : Poll) (changes : List (ℕ × List ℕ)) →
         ((row : List ℕ) → IsValidBallot p.c row → plus row ≤ top + minus row) → IsAlteration p changes →
         add_up minus (after p changes).rows ≤ add_up plus (after p changes).rows → Reaches top plus minus p.rows (length changes) }
+{}
+
+/// Another allocation of seats than a given one is admitted exactly where the next quotient of some party reaches the last one of
+/// another party that has a seat.
+pub fn other_seats_are_admitted_where_a_party_gains()
+    ensures { (votes shares : List ℕ) (s : ℕ) → 1 ≤ length votes → length shares ≡ length votes → seats_in_all shares ≡ s →
+        ((other : List ℕ) × (other ≢ shares) × IsAllocation votes s other) ↔ ((g l : ℕ) × IsSeatGain votes shares g l) }
 {}
