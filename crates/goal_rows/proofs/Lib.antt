@@ -6,5 +6,8 @@ pub mod Nearest
 pub mod Roots
 pub mod Ways
 pub mod SeatMoves
+pub mod SeatRoots
+pub mod Settled
+pub mod PairTurning
 pub mod Levels
 pub mod Classed

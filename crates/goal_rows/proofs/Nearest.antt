@@ -62,7 +62,7 @@ no_shorter p x g k is nearest changes ok short turns =
     let reached = length_reaches 1 (points_for level.0) (points_for x) p changes (λ row valid. points_one (is_first row level.0) (is_first row x)) ok level.1.level in
     omega (arith, short, nearest.fewest level.0 (length changes) level.1.stands level.1.other reached)
 
-level_after : (p : Poll) (x g k : ℕ) → g < p.c → g ≢ x → k ≤ score_of plurality_points p.rows x → PluralityReaches p.rows g x k → IsLevel (after p (puts_of g (first_led x 1 k p.rows))) x g
+level_after : (p : Poll) (x g k : ℕ) → g < p.c → g ≢ x → k ≤ score_of plurality_points p.rows x → PluralityReaches p.rows g x k → IsLevel plurality_points (after p (puts_of g (first_led x 1 k p.rows))) x g
 level_after p x g k stands differ enough reached =
     let m = moved p.c x g 1 k (length p.rows) p.rows stands differ (omega arith) enough in
     record { stands = stands; other = differ; level = omega (arith, m.lost, m.won, twice_reaches g x k p.rows reached) }

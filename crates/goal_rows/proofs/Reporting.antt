@@ -57,7 +57,7 @@ one_lowest points p x y a b = elim (cases_lt x y) [
 ]
 
 -- nobody else is chosen against who is chosen in all pairs
-one_chosen : (c : ℕ) (s : ℕ → ℕ → Bool) (x y : ℕ) → IsChosenInAll c s x → IsChosenInAll c s y → x ≡ y
+pub one_chosen : (c : ℕ) (s : ℕ → ℕ → Bool) (x y : ℕ) → IsChosenInAll c s x → IsChosenInAll c s y → x ≡ y
 one_chosen c s x y a b = elim (cases_lt x y) [
   | inl lt ↦ absurd (differ (a.chosen y b.stands (omega arith)).0 (b.chosen x a.stands (omega arith)).1 lt)
   | inr ge ↦ elim (cases_lt y x) [

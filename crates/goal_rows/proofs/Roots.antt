@@ -74,7 +74,7 @@ pub pair_value : (c g l : ℕ) (reported : Outcome) (rows : List (List ℕ))
     → sum_z (pair_weight Plurality c reported g l) rows ≡ pos (score_of plurality_points rows g) -ℤ pos (score_of plurality_points rows l)
 pair_value c g l reported rows = sum_z-difference (λ row. plurality_points row g) (λ row. plurality_points row l) rows
 
-one_row : (weight : List ℕ → ℤ) (rows : List (List ℕ)) → pos 0 ≤ℤ sum_z weight rows → Holds (weight ∷ []) rows
+pub one_row : (weight : List ℕ → ℤ) (rows : List (List ℕ)) → pos 0 ≤ℤ sum_z weight rows → Holds (weight ∷ []) rows
 one_row weight rows h zero d lt = h
 one_row weight rows h (suc k) d lt = absurd (omega arith)
 
@@ -90,7 +90,7 @@ holds_pair c g l reported rows holds =
     omega (arith, ints, h, v)
 
 -- ---- turning
-goal_of_level : (p : Poll) (x : ℕ) (changes : List (ℕ × List ℕ)) → ((j : ℕ) × IsLevel (after p changes) x j)
+goal_of_level : (p : Poll) (x : ℕ) (changes : List (ℕ × List ℕ)) → ((j : ℕ) × IsLevel plurality_points (after p changes) x j)
     → (goal : Goal) × IsComplete (pairs_below p.c x) goal × Holds (rows_of Plurality p.c (Winner x) goal) (after p changes).rows
 goal_of_level p x changes level = (
   Pair level.0 x,
@@ -99,7 +99,7 @@ goal_of_level p x changes level = (
 )
 
 level_of_goal : (p : Poll) (x : ℕ) (changes : List (ℕ × List ℕ)) (goal : Goal) → IsComplete (pairs_below p.c x) goal
-    → Holds (rows_of Plurality p.c (Winner x) goal) (after p changes).rows → (j : ℕ) × IsLevel (after p changes) x j
+    → Holds (rows_of Plurality p.c (Winner x) goal) (after p changes).rows → (j : ℕ) × IsLevel plurality_points (after p changes) x j
 level_of_goal p x changes Root complete holds = absurd complete
 level_of_goal p x changes (Pair g l) complete holds =
     let is = pairs_are p.c x g l complete in

@@ -61,12 +61,15 @@ held_before rule c reported roots goal Root (i ∷ way) rows leads holds = λ k 
 held_before rule c reported roots goal (Pair g l) (i ∷ way) rows (kid, among, more) holds = absurd among
 
 -- the pairs of each other candidate with one are pairs, each once
+pub no_pairs : ArePairs []
+no_pairs = record { pairs = λ there. omega (arith, there.1); once = λ i j d less lt. absurd (omega (arith, lt)) }
+
 no_root : (x : Goal) → Contains (x ∷ []) Root → (g l : ℕ) → x ≡ Pair g l → ⊥
 no_root x (zero, lt, e) g l is = root_is_no_pair g l (sym e ∙ is)
 no_root x (suc k, lt, e) g l is = absurd (omega (arith, lt))
 
 pub pairs_once : (c x : ℕ) → ArePairs (pairs_below c x)
-pairs_once zero x = record { pairs = λ there. omega (arith, there.1); once = λ i j d less lt. absurd (omega (arith, lt)) }
+pairs_once zero x = no_pairs
 pairs_once (suc c) x =
     let below = pairs_once c x in
     elim (cases_eq c x) [
@@ -88,5 +91,5 @@ pairs_once (suc c) x =
 
 pub roots_once : (c : ℕ) (reported : Outcome) → ArePairs (root_goals Plurality c reported)
 roots_once c (Winner x) = pairs_once c x
-roots_once c NoWinner = record { pairs = λ there. omega (arith, there.1); once = λ i j d less lt. absurd (omega (arith, lt)) }
-roots_once c (Seats shares) = record { pairs = λ there. omega (arith, there.1); once = λ i j d less lt. absurd (omega (arith, lt)) }
+roots_once c NoWinner = no_pairs
+roots_once c (Seats shares) = no_pairs

@@ -1,6 +1,6 @@
 -- Goals and their rows. A row gives each ballot a whole weight, and holds on a list of ballots where the sum of the weights is at
 -- least 0. The outcome turns exactly where all rows of some complete goal hold after the replacements.
-use Rattle.std.specs.Prelude.{ℕ, ◌+◌, ◌==◌, List, [], ◌∷◌, ◌++◌, Contains, All, Option, Some, None, if◌then◌else◌, slice_index, ℤ, pos, ◌-ℤ◌, ◌≤ℤ◌}
+use Rattle.std.specs.Prelude.{ℕ, ◌+◌, ◌==◌, ◌&&◌, not, nat_lt, List, [], ◌∷◌, ◌++◌, Contains, All, Option, Some, None, if◌then◌else◌, slice_index, ℤ, pos, ◌-ℤ◌, ◌≤ℤ◌}
 use Rattle.std.proofs.Common.{zero, suc}
 use Rattle.mov_base.specs.Sums.{sum_z}
 use Rattle.ballot_form.specs.Scores.{borda_points, is_first, plurality_points}
@@ -52,10 +52,30 @@ abbrev pub pairs_below : ℕ → ℕ → List Goal
 pairs_below zero x = []
 pairs_below (suc c) x = pairs_below c x ++ (if c == x then [] else Pair c x ∷ [])
 
--- the goals below the root. Under plurality they are the pairs of each other candidate, ascending, with the reported winner
+-- the pairs of g with each other candidate below l that has a seat, ascending
+abbrev pub seated_below : ℕ → ℕ → List ℕ → List Goal
+seated_below zero g shares = []
+seated_below (suc l) g shares = seated_below l g shares ++ (if not (l == g) && nat_lt 0 (slice_index shares l) then Pair g l ∷ [] else [])
+
+-- those of each gainer below g, ascending, of c candidates
+abbrev pub seat_pairs : ℕ → ℕ → List ℕ → List Goal
+seat_pairs zero c shares = []
+seat_pairs (suc g) c shares = seat_pairs g c shares ++ seated_below c g shares
+
+-- the goals below the root. Where a winner is reported by scores or by pairs, they are the pairs of each other candidate, ascending,
+-- with the winner; under D'Hondt the pairs of each candidate with each other one that has a seat
 abbrev pub root_goals : Rule → ℕ → Outcome → List Goal
 root_goals Plurality c (Winner x) = pairs_below c x
+root_goals Borda c (Winner x) = pairs_below c x
+root_goals Condorcet c (Winner x) = pairs_below c x
+root_goals (Dhondt seats) c (Seats shares) = seat_pairs c c shares
 root_goals rule c reported = []
+
+-- the rule is decided by pairs of candidates: all but instant runoff, and Condorcet's where there is no winner
+abbrev pub IsDecidedByPairs : Rule → Outcome → Type 0
+IsDecidedByPairs Irv reported = ⊥
+IsDecidedByPairs Condorcet NoWinner = ⊥
+IsDecidedByPairs rule reported = Unit {0}
 
 -- the goals that a goal is split into, where it has a cover: one of them holds where it holds on the way to a complete goal
 abbrev pub cover_of : List Goal → Goal → Option (List Goal)

@@ -62,10 +62,10 @@ first_led x i (suc k) [] = []
 first_led x i (suc k) (row ∷ rows) = if is_first row x then i ∷ first_led x (i + 1) k rows else first_led x (i + 1) (suc k) rows
 
 -- j is a challenger of x whose score reaches that of x
-pub record IsLevel (p : Poll) (x j : ℕ) : Type 0 where
+pub record IsLevel (points : List ℕ → ℕ → ℕ) (p : Poll) (x j : ℕ) : Type 0 where
   pub stands : j < p.c
   pub other : j ≢ x
-  pub level : score_of plurality_points p.rows x ≤ score_of plurality_points p.rows j
+  pub level : score_of points p.rows x ≤ score_of points p.rows j
 
 -- what is said of a contest by the challenger g of the reported x and the numbers of the ballots to replace by g alone: they are
 -- the cheapest, they turn the outcome, and no fewer of any kind do

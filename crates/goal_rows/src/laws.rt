@@ -2,15 +2,20 @@
 ghost use Rattle.std.specs.Prelude.{◌≡◌, ◌≢◌, ◌↔◌, ◌+◌, ◌≤◌, ℕ, List, length};
 ghost use Rattle.mov_base.specs.Sums.{add_up};
 ghost use Rattle.ballot_form.specs.Alterations.{IsAlteration, after};
-ghost use Rattle.ballot_form.specs.Ballots.{IsValidBallot, Poll};
+ghost use Rattle.ballot_form.specs.Ballots.{IsPoll, IsValidBallot, Poll};
+ghost use Rattle.ballot_form.specs.Rules.{IsRule};
+ghost use Rattle.ballot_form.specs.Scores.{plurality_points};
 ghost use Rattle.ballot_form.specs.declared.outcome.Outcome.{Outcome as AnOutcome};
 ghost use Rattle.ballot_form.specs.declared.rule.Rule.{Rule as ARule};
+ghost use Rattle.goal_rows.specs.Goals.{Holds, IsComplete, IsDecidedByPairs, root_goals, rows_of};
 ghost use Rattle.goal_rows.specs.Margins.{IsMargin, Turns};
 ghost use Rattle.ballot_form.specs.declared.outcome.Outcome.TheVariants.{Winner};
 ghost use Rattle.ballot_form.specs.declared.rule.Rule.TheVariants.{Plurality};
 ghost use Rattle.goal_rows.specs.Outcomes.{IsReported};
 ghost use Rattle.goal_rows.specs.Pairs.{IsLevel, Reaches};
 ghost use Rattle.goal_rows.specs.SeatGains.{IsSeatGain};
+ghost use Rattle.goal_rows.specs.Ways.{IsReachedOnce};
+ghost use Rattle.goal_rows.specs.declared.goals.Goal.{Goal as AGoal};
 ghost use Rattle.dhondt_seats.specs.Seats.{IsAllocation, seats_in_all};
 
 /// There is one reported outcome at most.
@@ -26,7 +31,7 @@ pub fn a_margin_is_one_number()
 /// Under plurality the outcome turns exactly where the score of some other candidate reaches that of the reported one.
 pub fn plurality_turns_where_a_challenger_is_level()
     ensures { (p : Poll) (x : ℕ) (changes : List (ℕ × List ℕ)) → IsReported Plurality p (Winner x) →
-        Turns Plurality p changes ↔ ((j : ℕ) × IsLevel (after p changes) x j) }
+        Turns Plurality p changes ↔ ((j : ℕ) × IsLevel plurality_points (after p changes) x j) }
 {}
 
 /// Where an alteration brings a gainer level with a loser, the largest gains of as many ballots make up what the gainer was behind.
@@ -43,4 +48,14 @@ pub fn replacements_bring_at_most_the_largest_gains()
 pub fn other_seats_are_admitted_where_a_party_gains()
     ensures { (votes shares : List ℕ) (s : ℕ) → 1 ≤ length votes → length shares ≡ length votes → seats_in_all shares ≡ s →
         ((other : List ℕ) × (other ≢ shares) × IsAllocation votes s other) ↔ ((g l : ℕ) × IsSeatGain votes shares g l) }
+{}
+
+/// Under the rules that are decided by pairs the outcome turns exactly where the rows of some complete goal hold after the
+/// replacements, and each complete goal is reached from the root in just one way.
+pub fn the_outcome_turns_where_a_pair_holds()
+    ensures turning { (rule : ARule) (p : Poll) (reported : AnOutcome) (changes : List (ℕ × List ℕ)) → IsDecidedByPairs rule reported → IsPoll p →
+        IsReported rule p reported → Turns rule p changes
+        ↔ ((goal : AGoal) × IsComplete (root_goals rule p.c reported) goal × Holds (rows_of rule p.c reported goal) (after p changes).rows) }
+    ensures once { (rule : ARule) (c : ℕ) (reported : AnOutcome) (goal : AGoal) → IsComplete (root_goals rule c reported) goal →
+        IsReachedOnce (root_goals rule c reported) goal }
 {}

@@ -18,7 +18,7 @@ pub use grounds::ground;
 pub use laws::{
     a_margin_is_one_number, a_reported_outcome_is_one,
     other_seats_are_admitted_where_a_party_gains, plurality_turns_where_a_challenger_is_level,
-    replacements_bring_at_most_the_largest_gains,
+    replacements_bring_at_most_the_largest_gains, the_outcome_turns_where_a_pair_holds,
 };
 pub use outcomes::reported;
 pub use races::{cover, is_complete, kid_count, race};
