@@ -10,4 +10,5 @@ pub mod SeatRoots
 pub mod Settled
 pub mod PairTurning
 pub mod Levels
+pub mod FoundPlaces
 pub mod Classed

@@ -1,10 +1,10 @@
 -- The root goals under D'Hondt: what it takes to be among them, and that each is there once.
-use Rattle.std.proofs.Common.{ℕ, zero, suc, List, [], ◌∷◌, ◌++◌, Bool, true, false, ◌≡◌, ◌≢◌, ◌<◌, ◌≤◌, ◌⊎◌, ◌∙◌, cond, get_or, length, ap, sym, refl, subst, inl, inr, arith}
+use Rattle.std.proofs.Common.{ℕ, zero, suc, List, [], ◌∷◌, ◌++◌, Bool, true, false, ◌≡◌, ◌≢◌, ◌<◌, ◌≤◌, ◌⊎◌, ◌+◌, ◌∙◌, cond, get_or, length, ap, sym, refl, subst, inl, inr, arith}
 use Rattle.std.specs.Prelude.{◌==◌, ◌&&◌, not, nat_lt, Contains, slice_index}
 use Rattle.std.specs.List.{AllPairs}
 use Rattle.std.proofs.lemmas.Bool.{cases_eq}
 use Rattle.std.proofs.lemmas.Bool.Decides.{nat_tests}
-use Rattle.std.proofs.lemmas.List.{append-nil, get_or_default}
+use Rattle.std.proofs.lemmas.List.{append_assoc, append-nil, get_or_default}
 use Rattle.std.proofs.lemmas.List.Elements.{Contains-append_cases, Contains-append_left, Contains-append_right}
 use Rattle.std.proofs.lemmas.List.Kept.{AllPairs-cons}
 use Rattle.goal_rows.specs.declared.goals.Goal.{Goal}
@@ -138,3 +138,23 @@ seat_pairs_once (suc n) c shares =
         let is = seat_pairs_are n c h l shares a in
         let end = seated_are c n h l shares b in
         omega (arith, is.0, end.0)
+
+-- ---- built one by one
+
+pub seated_more : (l g : ℕ) (shares : List ℕ) (before roots : List Goal) → roots ≡ before ++ seated_below l g shares → (not (l == g) && nat_lt 0 (slice_index shares l)) ≡ true
+    → roots ++ Pair g l ∷ [] ≡ before ++ seated_below (l + 1) g shares
+seated_more l g shares before roots is t =
+    let n : l + 1 ≡ suc l = omega arith in
+    rw (n, t, is) (append_assoc before (seated_below l g shares) (Pair g l ∷ []))
+
+pub seated_no_more : (l g : ℕ) (shares : List ℕ) (before roots : List Goal) → roots ≡ before ++ seated_below l g shares → (not (l == g) && nat_lt 0 (slice_index shares l)) ≡ false
+    → roots ≡ before ++ seated_below (l + 1) g shares
+seated_no_more l g shares before roots is t =
+    let n : l + 1 ≡ suc l = omega arith in
+    rw (n, t, is) (ap (λ xs. before ++ xs) (sym (append-nil (seated_below l g shares))))
+
+pub seat_pairs_more : (g c : ℕ) (shares : List ℕ) (before roots : List Goal) → before ≡ seat_pairs g c shares → roots ≡ before ++ seated_below c g shares
+    → roots ≡ seat_pairs (g + 1) c shares
+seat_pairs_more g c shares before roots is added =
+    let n : g + 1 ≡ suc g = omega arith in
+    rw (n, ← is) added

@@ -10,6 +10,7 @@ mod grounds;
 mod laws;
 mod outcomes;
 pub mod parts;
+mod points;
 mod races;
 mod rows;
 

@@ -1,9 +1,11 @@
 // Contests under a rule, and the goals of one.
-ghost use Rattle.std.specs.Prelude.{◌≡◌, ◌↔◌, ℕ, List, length, option_map, Contains, IfOk, IsTrue};
+ghost use Rattle.std.specs.Prelude.{◌≡◌, ◌↔◌, ◌++◌, ◌==◌, ◌&&◌, not, nat_lt, slice_index, ℕ, List, length, option_map, Contains, IfOk, IsTrue, OnOk};
 ghost use Rattle.ballot_form.specs.Alterations.{after};
-ghost use Rattle.ballot_form.specs.declared.rule.Rule.TheVariants.{Plurality};
-ghost use Rattle.goal_rows.specs.Goals.{Holds, IsComplete, cover_of, pairs_below, root_goals, rows_of};
+ghost use Rattle.ballot_form.specs.Rules.{IsRule};
+ghost use Rattle.ballot_form.specs.declared.outcome.Outcome.{Outcome as AnOutcome};
+ghost use Rattle.goal_rows.specs.Goals.{Holds, IsComplete, IsDecidedByPairs, cover_of, pairs_below, root_goals, rows_of, seat_pairs, seated_below};
 ghost use Rattle.goal_rows.specs.Margins.{Turns};
+ghost use Rattle.goal_rows.specs.Outcomes.{IsReported};
 ghost use Rattle.goal_rows.specs.Races.{IsRace};
 ghost use Rattle.goal_rows.specs.Ways.{IsReachedOnce, IsWay};
 ghost use Rattle.goal_rows.specs.declared.goals.Goal.{Goal as AGoal};
@@ -12,15 +14,18 @@ ghost use Rattle.goal_rows.specs.declared.goals.Goal.TheVariants.{Pair};
 use crate::goals::{Goal, GoalList};
 use crate::outcomes::reported;
 use crate::parts::Race;
+use crate::points::seats_at;
 use ballot_form::{Cand, Outcome, Roll, Rule};
 use mov_base::Memory;
 use signature_class::kinds;
 use std::alloc::Global;
 
-/// The contest under the rule: its kinds of ballots, the reported outcome, and the root goals. Under plurality these are the pairs of
-/// each other candidate, ascending, with the reported winner.
+/// The contest under the rule: its kinds of ballots, the reported outcome, and the root goals. Where a winner is reported by scores or
+/// by pairs, these are the pairs of each other candidate, ascending, with the winner; under D'Hondt the pairs of each candidate with
+/// each other one that has a seat, by the gainer, then the loser.
 pub fn race<'a>(alloc: Global, rule: Rule, roll: &'a Roll) -> Result<Race<'a>, Memory>
-    requires plurality { rule ≡ Plurality }
+    requires rule { IsRule rule }
+    requires pairs { (o : AnOutcome) → IsReported rule roll.now o → IsDecidedByPairs rule o }
     ensures rule { IfOk result (λ race. race.rule ≡ rule) }
     ensures roll { IfOk result (λ race. race.roll.now ≡ roll.now) }
     ensures race { IfOk result (λ race. IsRace rule roll.now race.kinds race.reported race.roots) }
@@ -35,7 +40,7 @@ pub fn race<'a>(alloc: Global, rule: Rule, roll: &'a Roll) -> Result<Race<'a>, M
 {
     let kinds = kinds(alloc, roll)?;
     let reported = reported(alloc, rule, roll)?;
-    let roots = pairs_with(alloc, roll.candidates(), &reported)?;
+    let roots = roots_of(alloc, rule, roll.candidates(), &reported)?;
     Ok(Race {
         rule,
         roll,
@@ -45,12 +50,15 @@ pub fn race<'a>(alloc: Global, rule: Rule, roll: &'a Roll) -> Result<Race<'a>, M
     })
 }
 
-/// The pairs of each other candidate with the winner.
-fn pairs_with(alloc: Global, c: u8, reported: &Outcome) -> Result<GoalList, Memory>
-    ensures { IfOk result (λ roots. roots ≡ root_goals Plurality c reported.now) }
+/// The root goals of the rule with the reported outcome.
+fn roots_of(alloc: Global, rule: Rule, c: u8, reported: &Outcome) -> Result<GoalList, Memory>
+    ensures { IfOk result (λ roots. roots ≡ root_goals rule c reported.now) }
 {
-    match reported {
-        Outcome::Winner(x) => others(alloc, c, *x),
+    match (rule, reported) {
+        (Rule::Plurality | Rule::Borda | Rule::Condorcet, Outcome::Winner(x)) => {
+            others(alloc, c, *x)
+        }
+        (Rule::Dhondt(_), Outcome::Seats(shares)) => seated(alloc, c, shares.as_slice()),
         _ => Ok(GoalList::new(alloc)),
     }
 }
@@ -67,6 +75,38 @@ fn others(alloc: Global, c: u8, x: Cand) -> Result<GoalList, Memory>
         }
     }
     Ok(roots)
+}
+
+/// The pairs of each candidate with each other one that has a seat.
+#[tactic(auto, using(crate::proofs::SeatRoots::seat_pairs_more))]
+fn seated(alloc: Global, c: u8, shares: &[u16]) -> Result<GoalList, Memory>
+    ensures { IfOk result (λ roots. roots ≡ seat_pairs c c shares.now) }
+{
+    let mut roots = GoalList::new(alloc);
+    for g in 0..c {
+        add_seated(&mut roots, c, g, shares)?;
+    }
+    Ok(roots)
+}
+
+/// Adds the pairs of this candidate with each other one that has a seat.
+#[tactic(auto, using(crate::proofs::SeatRoots::seated_more, crate::proofs::SeatRoots::seated_no_more))]
+fn add_seated(roots: &mut GoalList, c: u8, g: Cand, shares: &[u16]) -> Result<(), Memory>
+    ensures { OnOk result (roots.new ≡ roots.old ++ seated_below c g shares.now) }
+{
+    for l in 0..c {
+        if is_seated(g, l, shares) {
+            roots.push(Goal::Pair(g, l))?;
+        }
+    }
+    Ok(())
+}
+
+/// Whether l is another candidate than g and has a seat.
+fn is_seated(g: Cand, l: Cand, shares: &[u16]) -> bool
+    ensures { result ≡ (not (l == g) && nat_lt 0 (slice_index shares.now l)) }
+{
+    l != g && seats_at(shares, l) > 0
 }
 
 /// The goals that a goal is split into; none where it has no cover.

@@ -1,29 +1,25 @@
 use Rattle.std.proofs.Common.{ap, subst, sym, ◌∙◌}
 use Rattle.std.specs.Prelude.{◌↔◌}
 use Rattle.ballot_form.specs.Alterations.{after}
-use Rattle.ballot_form.specs.declared.rule.Rule.TheVariants.{Plurality}
 use Rattle.goal_rows.specs.Goals.{Holds, IsComplete, root_goals, rows_of}
 use Rattle.goal_rows.specs.Margins.{Turns}
-use Rattle.goal_rows.specs.Outcomes.{IsReported}
 use Rattle.goal_rows.specs.declared.goals.Goal.{Goal}
-use Rattle.goal_rows.proofs.Roots.{turning}
-use Rattle.goal_rows.proofs.Ways.{ArePairs, held_before, reached_once, roots_once}
+use Rattle.goal_rows.proofs.PairTurning.{each_once, pair_turning}
+use Rattle.goal_rows.proofs.Ways.{ArePairs, held_before, reached_once}
 use Rattle.goal_rows.proofs.races.race.Goals as goal
 
 pub returns-clause-turning : goal.returns-clause-turning
 returns-clause-turning c =
-    let is : IsReported Plurality c.args.roll.now c.in_ok-reported.reported = subst (λ r. IsReported r c.args.roll.now c.in_ok-reported.reported) c.requires.plurality c.in_ok-reported.ensures.reported in
-    let roots = c.in_ok-roots.ensures ∙ ap (λ n. root_goals Plurality n c.in_ok-reported.reported) c.candidates.ensures.value in
-    λ changes. subst (λ r. Turns r c.args.roll.now changes
-    ↔ ((goal : Goal) × IsComplete c.in_ok-roots.roots goal × Holds (rows_of r c.args.roll.now.c c.in_ok-reported.reported goal) (after c.args.roll.now changes).rows)) (sym c.requires.plurality)
-    (subst (λ gs. Turns Plurality c.args.roll.now changes
-    ↔ ((goal : Goal) × IsComplete gs goal × Holds (rows_of Plurality c.args.roll.now.c c.in_ok-reported.reported goal) (after c.args.roll.now changes).rows)) (sym roots)
-    (turning c.args.roll.now c.in_ok-reported.reported changes is))
+    let roots = c.in_ok-roots.ensures ∙ ap (λ n. root_goals c.args.rule n c.in_ok-reported.reported) c.candidates.ensures.value in
+    λ changes. subst (λ gs. Turns c.args.rule c.args.roll.now changes
+    ↔ ((goal : Goal) × IsComplete gs goal × Holds (rows_of c.args.rule c.args.roll.now.c c.in_ok-reported.reported goal) (after c.args.roll.now changes).rows)) (sym roots)
+    (pair_turning c.args.rule c.args.roll.now c.in_ok-reported.reported changes (c.requires.pairs c.in_ok-reported.reported c.in_ok-reported.ensures.reported) c.candidates.ensures.poll
+    c.in_ok-reported.ensures.reported)
 
 pub returns-clause-once : goal.returns-clause-once
 returns-clause-once c =
-    let roots = c.in_ok-roots.ensures ∙ ap (λ n. root_goals Plurality n c.in_ok-reported.reported) c.candidates.ensures.value in
-    let are = subst ArePairs (sym roots) (roots_once c.args.roll.now.c c.in_ok-reported.reported) in
+    let roots = c.in_ok-roots.ensures ∙ ap (λ n. root_goals c.args.rule n c.in_ok-reported.reported) c.candidates.ensures.value in
+    let are = subst ArePairs (sym roots) (each_once c.args.rule c.args.roll.now.c c.in_ok-reported.reported) in
     λ goal complete. reached_once c.in_ok-roots.roots goal are complete
 
 pub returns-clause-on_the_way : goal.returns-clause-on_the_way
