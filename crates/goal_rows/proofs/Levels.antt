@@ -1,26 +1,16 @@
 -- The rows of pairs on a list of ballots.
-use Rattle.std.proofs.Common.{ℕ, List, Some, ◌≡◌, ◌≤◌, ◌+◌, ◌↔◌, take, slice_get, leb, sym, subst, arith}
+use Rattle.std.proofs.Common.{ℕ, List, Bool, ◌≤◌, ◌↔◌}
 use Rattle.std.specs.Prelude.{IsTrue}
-use Rattle.std.proofs.lemmas.Bool.{le-leb}
-use Rattle.std.proofs.lemmas.Bool.Decides.{nat_tests}
-use Rattle.mov_base.proofs.Sums.{add_up_more}
-use Rattle.ballot_form.specs.Scores.{plurality_points, score_of}
+use Rattle.mov_base.specs.Sums.{add_up}
 use Rattle.ballot_form.specs.declared.outcome.Outcome.{Outcome}
 use Rattle.ballot_form.specs.declared.rule.Rule.{Rule}
-use Rattle.ballot_form.specs.declared.rule.Rule.TheVariants.{Plurality}
 use Rattle.goal_rows.specs.declared.goals.Goal.TheVariants.{Pair}
-use Rattle.goal_rows.specs.Goals.{Holds, rows_of}
-use Rattle.goal_rows.proofs.Roots.{holds_pair, pair_holds}
+use Rattle.goal_rows.specs.Goals.{Holds, gainer_points, loser_points, rows_of}
+use Rattle.goal_rows.proofs.PairTurning.{pair_row}
 
--- one ballot more
-pub score_more : (rows : List (List ℕ)) (i : ℕ) (row : List ℕ) (x : ℕ) → slice_get rows i ≡ Some row
-    → score_of plurality_points (take (i + 1) rows) x ≡ score_of plurality_points (take i rows) x + plurality_points row x
-score_more rows i row x at = add_up_more (λ r. plurality_points r x) rows i row at
-
--- a test that the gainer's score reaches the loser's is one of the row
-pub level_holds : (rule : Rule) (c g l : ℕ) (reported : Outcome) (rows : List (List ℕ)) (m n : ℕ) → rule ≡ Plurality
-    → m ≡ score_of plurality_points rows l → n ≡ score_of plurality_points rows g → IsTrue (leb m n) ↔ Holds (rows_of rule c reported (Pair g l)) rows
-level_holds rule c g l reported rows m n is m_is n_is = subst (λ r. IsTrue (leb m n) ↔ Holds (rows_of r c reported (Pair g l)) rows) (sym is) (
-  λ e. pair_holds c g l reported rows (let h : m ≤ n = grind (arith, nat_tests) in omega (arith, h, m_is, n_is)),
-  λ holds. let h = holds_pair c g l reported rows holds in le-leb m n (omega (arith, h, m_is, n_is)),
-)
+-- a test that what is counted for the gainer reaches what is counted for the loser is one of the row
+pub level_holds : (rule : Rule) (c g l : ℕ) (reported : Outcome) (rows : List (List ℕ)) (t : Bool)
+    → IsTrue t ↔ (add_up (loser_points rule c reported g l) rows ≤ add_up (gainer_points rule c reported g l) rows) → IsTrue t ↔ Holds (rows_of rule c reported (Pair g l)) rows
+level_holds rule c g l reported rows t level =
+    let row = pair_row rule c reported g l rows in
+    (λ e. row.1 (level.0 e), λ holds. level.1 (row.0 holds))

@@ -3,7 +3,6 @@ use Rattle.std.specs.Prelude.{◌≡◌, ℕ, ◌+◌, ◌-◌, List, [], ◌∷
 use Rattle.std.specs.Str.{bytes_eq}
 use Rattle.mov_base.specs.Sums.{sum_z}
 use Rattle.ballot_form.specs.Ballots.{Poll}
-use Rattle.ballot_form.specs.Scores.{plurality_points}
 use Rattle.ballot_form.specs.declared.outcome.Outcome.{Outcome}
 use Rattle.ballot_form.specs.declared.rule.Rule.{Rule}
 use Rattle.signature_class.specs.Classes.{classes_of}
@@ -39,6 +38,6 @@ pub record IsGroundOf (rule : Rule) (p : Poll) (reported : Outcome) (goal : Goal
   pub ballots_are : ballots ≡ length p.rows
   pub lone_is : lone ≡ lone_weight rule p.c reported goal
 
--- kinds of ballots by their keys under a pair, where a ballot counts 1 for its first candidate
-abbrev pub keyed : ℕ → ℕ → List (List ℕ × ℕ) → List (ℕ × ℕ)
-keyed g l kinds = map (λ k. ((plurality_points k.0 g + 1024) - plurality_points k.0 l, k.1)) kinds
+-- kinds of ballots by a key
+abbrev pub keyed : (List ℕ → ℕ) → List (List ℕ × ℕ) → List (ℕ × ℕ)
+keyed key kinds = map (λ k. (key k.0, k.1)) kinds

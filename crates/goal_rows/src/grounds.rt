@@ -1,24 +1,21 @@
 // What a goal is before any replacement.
-ghost use Rattle.std.specs.Prelude.{◌≡◌, ◌≤◌, ◌+◌, ◌*◌, ◌-◌, ◌<◌, ◌==◌, if◌then◌else◌, pos, ◌-ℤ◌, [], ◌∷◌, IfOk, length, nat_eq, slice_index_or};
+ghost use Rattle.std.specs.Prelude.{◌≡◌, ◌≤◌, ◌*◌, pos, ◌-ℤ◌, [], ◌∷◌, IfOk, nat_eq};
 ghost use Rattle.mov_base.specs.Sums.{add_up};
-ghost use Rattle.ballot_form.specs.Scores.{plurality_points};
-ghost use Rattle.ballot_form.specs.declared.rule.Rule.TheVariants.{Plurality};
 ghost use Rattle.signature_class.specs.Classes.{add_all};
-ghost use Rattle.goal_rows.specs.Races.{IsGroundOf, IsRace, keyed};
+ghost use Rattle.goal_rows.specs.Goals.{gainer_points, loser_points, pair_weight};
+ghost use Rattle.goal_rows.specs.Races.{IsGroundOf, IsRace, keyed, pair_key};
 ghost use Rattle.goal_rows.specs.declared.goals.Goal.TheVariants.{Pair};
 
 use crate::goals::Goal;
 use crate::parts::{Ground, Race, SumList};
-use crate::rows::points_of;
+use crate::points::{for_gainer, for_loser};
 use ballot_form::Cand;
 use mov_base::Memory;
 use signature_class::Classes;
-use signature_class::parts::Kinds;
 use std::alloc::Global;
 
 /// The goal's classes of ballots, the value of each of its rows, the number of ballots, and the weight of the gainer alone.
 pub fn ground(alloc: Global, race: &Race<'_>, goal: &Goal) -> Result<Ground, Memory>
-    requires plurality { race.now.rule ≡ Plurality }
     requires race { IsRace race.now.rule race.now.roll.now race.now.kinds race.now.reported race.now.roots }
     ensures goal { IfOk result (λ node. node.goal ≡ goal.now) }
     ensures values { IfOk result (λ node. IsGroundOf race.now.rule race.now.roll.now race.now.reported goal.now node.classes node.sums node.ballots node.lone) }
@@ -38,29 +35,37 @@ pub fn ground(alloc: Global, race: &Race<'_>, goal: &Goal) -> Result<Ground, Mem
 /// What a pair is before any replacement.
 #[tactic(auto, using(crate::proofs::Classed::pair_values, crate::proofs::Classed::few_kinds))]
 fn under_pair(alloc: Global, race: &Race<'_>, gainer: Cand, loser: Cand) -> Result<Ground, Memory>
-    requires plurality { race.now.rule ≡ Plurality }
     requires race { IsRace race.now.rule race.now.roll.now race.now.kinds race.now.reported race.now.roots }
     ensures goal { IfOk result (λ node. node.goal ≡ Pair gainer loser) }
     ensures values { IfOk result (λ node. IsGroundOf race.now.rule race.now.roll.now race.now.reported (Pair gainer loser) node.classes node.sums node.ballots node.lone) }
 {
     let ballots = race.roll.len();
-    let classes = pair_classes(alloc, &race.kinds, gainer, loser)?;
-    let sums = one_sum(alloc, value(&race.kinds, gainer, loser))?;
+    let classes = pair_classes(alloc, race, gainer, loser)?;
+    let sums = one_sum(alloc, value(race, gainer, loser))?;
     Ok(Ground {
         goal: Goal::Pair(gainer, loser),
         classes,
         sums,
         ballots,
-        lone: lone(gainer, loser),
+        lone: weight(race, gainer, loser, &[gainer]),
     })
 }
 
-/// The value of the pair's row.
-fn value(kinds: &Kinds<'_>, gainer: Cand, loser: Cand) -> i64
-    requires few { add_up (λ k. k.1) kinds.now ≤ 1000000 }
-    ensures { result ≡ pos (add_up (λ k. k.1 * plurality_points k.0 gainer) kinds.now) -ℤ pos (add_up (λ k. k.1 * plurality_points k.0 loser) kinds.now) }
+/// The weight that the pair's row gives the ballot.
+fn weight(race: &Race<'_>, gainer: Cand, loser: Cand, row: &[Cand]) -> i64
+    ensures { result ≡ pair_weight race.now.rule race.now.roll.now.c race.now.reported gainer loser row.now }
 {
-    points(kinds, gainer) as i64 - points(kinds, loser) as i64
+    for_gainer(race, gainer, loser, row) as i64 - for_loser(race, gainer, loser, row) as i64
+}
+
+/// The value of the pair's row.
+fn value(race: &Race<'_>, gainer: Cand, loser: Cand) -> i64
+    requires few { add_up (λ k. k.1) race.now.kinds ≤ 1000000 }
+    ensures { result ≡ pos (add_up (λ k. k.1 * gainer_points race.now.rule race.now.roll.now.c race.now.reported gainer loser k.0) race.now.kinds)
+        -ℤ pos (add_up (λ k. k.1 * loser_points race.now.rule race.now.roll.now.c race.now.reported gainer loser k.0) race.now.kinds) }
+{
+    let (gained, lost) = counts(race, gainer, loser);
+    gained as i64 - lost as i64
 }
 
 /// The list of one sum.
@@ -72,55 +77,48 @@ fn one_sum(alloc: Global, sum: i64) -> Result<SumList, Memory>
     Ok(sums)
 }
 
-/// The weight of the ballot that ranks the gainer alone.
-fn lone(gainer: Cand, loser: Cand) -> i64
-    ensures { result ≡ (if gainer == loser then pos 0 else pos 1) }
-{
-    if gainer == loser { 0 } else { 1 }
-}
-
 /// The classes of the kinds by their key under the pair.
 #[tactic(auto, using(crate::proofs::Classed::class_more, crate::proofs::Classed::class_room))]
 fn pair_classes(
     alloc: Global,
-    kinds: &Kinds<'_>,
+    race: &Race<'_>,
     gainer: Cand,
     loser: Cand,
 ) -> Result<Classes, Memory>
-    requires few { add_up (λ k. k.1) kinds.now ≤ 1000000 }
-    ensures { IfOk result (λ classes. classes ≡ add_all nat_eq [] (keyed gainer loser kinds.now)) }
+    requires few { add_up (λ k. k.1) race.now.kinds ≤ 1000000 }
+    ensures { IfOk result (λ classes. classes ≡ add_all nat_eq [] (keyed (pair_key race.now.rule race.now.roll.now.c race.now.reported gainer loser) race.now.kinds)) }
 {
     let mut classes = Classes::new(alloc);
-    for i in 0..kinds.len() {
-        classes.add(key(kinds.row(i), gainer, loser), kinds.count(i))?;
+    for i in 0..race.kinds.len() {
+        let key = key(race, gainer, loser, race.kinds.row(i));
+        classes.add(key, race.kinds.count(i))?;
     }
     Ok(classes)
 }
 
 /// The key of a ballot under the pair.
-fn key(row: &[Cand], gainer: Cand, loser: Cand) -> u64
-    ensures { result ≡ (plurality_points row.now gainer + 1024) - plurality_points row.now loser }
+fn key(race: &Race<'_>, gainer: Cand, loser: Cand, row: &[Cand]) -> u64
+    ensures { result ≡ pair_key race.now.rule race.now.roll.now.c race.now.reported gainer loser row.now }
 {
-    points_of(row, gainer) + 1024 - points_of(row, loser)
+    (for_gainer(race, gainer, loser, row) + 1024).saturating_sub(for_loser(race, gainer, loser, row))
 }
 
-/// How many of the ballots put the candidate first.
-fn points(kinds: &Kinds<'_>, x: Cand) -> u64
-    requires few { add_up (λ k. k.1) kinds.now ≤ 1000000 }
-    ensures value { result ≡ add_up (λ k. k.1 * plurality_points k.0 x) kinds.now }
-    ensures few { result ≤ 1000000 }
+/// What all ballots count for the gainer, and what they count for the loser.
+#[tactic(auto, using(crate::proofs::Classed::counted_more, crate::proofs::Classed::kinds_more, crate::proofs::Classed::kinds_few))]
+fn counts(race: &Race<'_>, gainer: Cand, loser: Cand) -> (u64, u64)
+    requires few { add_up (λ k. k.1) race.now.kinds ≤ 1000000 }
+    ensures gained { result.0 ≡ add_up (λ k. k.1 * gainer_points race.now.rule race.now.roll.now.c race.now.reported gainer loser k.0) race.now.kinds }
+    ensures lost { result.1 ≡ add_up (λ k. k.1 * loser_points race.now.rule race.now.roll.now.c race.now.reported gainer loser k.0) race.now.kinds }
+    ensures few_gained { result.0 ≤ 65536000000 }
+    ensures few_lost { result.1 ≤ 65536000000 }
 {
-    let mut sum = 0;
-    for i in 0..kinds.len() {
-        sum += points_at(kinds, i, x);
+    let mut gained = 0;
+    let mut lost = 0;
+    for i in 0..race.kinds.len() {
+        let row = race.kinds.row(i);
+        let count = u64::from(race.kinds.count(i));
+        gained += count * for_gainer(race, gainer, loser, row);
+        lost += count * for_loser(race, gainer, loser, row);
     }
-    sum
-}
-
-/// How many ballots of the kind at the place put the candidate first.
-fn points_at(kinds: &Kinds<'_>, i: usize, x: Cand) -> u64
-    requires { i < length kinds.now }
-    ensures { result ≡ (slice_index_or kinds.now i ([], 0)).1 * plurality_points (slice_index_or kinds.now i ([], 0)).0 x }
-{
-    u64::from(kinds.count(i)) * points_of(kinds.row(i), x)
+    (gained, lost)
 }
