@@ -1,9 +1,7 @@
 -- What a pair is before any replacement, from the kinds of ballots.
-use Rattle.std.proofs.Common.{ℕ, zero, suc, List, [], ◌∷◌, ◌++◌, Bool, true, false, ◌≡◌, ◌<◌, ◌≤◌, ◌+◌, ◌-◌, ◌*◌, ◌∙◌, take, length, cond, get_or, sym, refl, ap, subst, arith}
-use Rattle.std.specs.Prelude.{nat_eq, ◌==◌, ℤ, pos, ◌-ℤ◌}
+use Rattle.std.proofs.Common.{ℕ, zero, suc, List, [], ◌∷◌, ◌++◌, ◌≡◌, ◌<◌, ◌≤◌, ◌+◌, ◌*◌, ◌∙◌, take, length, get_or, sym, refl, ap, arith}
+use Rattle.std.specs.Prelude.{nat_eq, ℤ, pos, ◌-ℤ◌}
 use Rattle.std.specs.Str.{bytes_eq}
-use Rattle.std.proofs.lemmas.Int.{ints}
-use Rattle.std.proofs.lemmas.Bool.Decides.{nat_tests}
 use Rattle.std.proofs.lemmas.List.{take_all, take_more, map-append}
 use Rattle.mov_base.specs.Sums.{add_up, sum_z}
 use Rattle.mov_base.proofs.Sums.{add_up-append, add_up-le}

@@ -1,7 +1,6 @@
 -- The place of a candidate that was found on a ballot.
-use Rattle.std.proofs.Common.{ℕ, zero, suc, List, [], ◌∷◌, Some, true, false, ◌≡◌, ◌<◌, ◌+◌, ◌∙◌, length, get_or, ap, refl, arith}
-use Rattle.std.specs.Prelude.{◌==◌, option_map}
-use Rattle.std.proofs.lemmas.Bool.{cases_eq}
+use Rattle.std.proofs.Common.{ℕ, zero, suc, List, [], ◌∷◌, Some, true, false, ◌≡◌, ◌<◌, ◌+◌, length, get_or, ap, refl, arith}
+use Rattle.std.specs.Prelude.{◌==◌}
 use Rattle.std.proofs.lemmas.Bool.Decides.{nat_tests}
 use Rattle.ballot_form.specs.Scores.{place_of}
 

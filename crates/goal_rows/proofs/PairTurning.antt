@@ -1,12 +1,12 @@
 -- Under the rules that are decided by pairs the outcome turns exactly where the row of some root goal holds.
-use Rattle.std.proofs.Common.{ℕ, zero, suc, List, [], ◌∷◌, ◌++◌, Bool, true, false, Option, Some, None, ◌≡◌, ◌≢◌, ◌<◌, ◌≤◌, ◌⊎◌, ◌+◌, ◌*◌, ◌∙◌, ◌↔◌, cond, get_or, length, sym, refl, ap, subst, inl, inr, arith}
-use Rattle.std.specs.Prelude.{◌==◌, Contains, ℤ, pos, ◌-ℤ◌, ◌≤ℤ◌, slice_index}
+use Rattle.std.proofs.Common.{ℕ, List, [], ◌∷◌, Bool, true, false, Option, Some, None, ◌≡◌, ◌≢◌, ◌<◌, ◌≤◌, ◌+◌, ◌*◌, ◌∙◌, ◌↔◌, cond, get_or, length, sym, ap, subst, arith}
+use Rattle.std.specs.Prelude.{pos, ◌≤ℤ◌}
 use Rattle.std.proofs.lemmas.Int.{ints}
 use Rattle.std.proofs.lemmas.List.{length-map}
 use Rattle.std.proofs.lemmas.List.FromFn.{get_or-map-range_with_len, length-range_with_len}
 use Rattle.std.proofs.lemmas.List.Sums.{sum_by-cons}
 use Rattle.std.specs.List.{range_with_len}
-use Rattle.dhondt_seats.specs.Seats.{IsAllocation, reported_seats, seats_in_all, votes_of}
+use Rattle.dhondt_seats.specs.Seats.{IsAllocation, seats_in_all, votes_of}
 use Rattle.goal_rows.specs.SeatGains.{IsSeatGain}
 use Rattle.goal_rows.specs.Pairs.{IsLevel}
 use Rattle.mov_base.specs.Sums.{add_up, sum_z}
@@ -14,7 +14,7 @@ use Rattle.mov_base.proofs.Signed.{sum_z-difference}
 use Rattle.mov_base.proofs.Sums.{add_up-sum_by}
 use Rattle.ballot_form.specs.Alterations.{after}
 use Rattle.ballot_form.specs.Ballots.{IsPoll, Poll}
-use Rattle.ballot_form.specs.Scores.{borda_points, first_count, is_first, plurality_points, score_of}
+use Rattle.ballot_form.specs.Scores.{borda_points, first_count, is_first, score_of}
 use Rattle.ballot_form.specs.declared.outcome.Outcome.{Outcome}
 use Rattle.ballot_form.specs.declared.outcome.Outcome.TheVariants.{Winner, NoWinner, Seats}
 use Rattle.ballot_form.specs.declared.rule.Rule.{Rule}
@@ -23,7 +23,7 @@ use Rattle.condorcet_count.specs.Preferences.{pref_of, prefers}
 use Rattle.condorcet_count.specs.Settlings.{IsAdmittedOutcome}
 use Rattle.goal_rows.specs.declared.goals.Goal.{Goal}
 use Rattle.goal_rows.specs.declared.goals.Goal.TheVariants.{Root, Pair}
-use Rattle.goal_rows.specs.Goals.{Holds, IsComplete, IsDecidedByPairs, gainer_points, loser_points, pair_weight, pairs_below, root_goals, rows_of}
+use Rattle.goal_rows.specs.Goals.{Holds, IsComplete, IsDecidedByPairs, gainer_points, loser_points, pair_weight, root_goals, rows_of}
 use Rattle.goal_rows.specs.Margins.{Turns}
 use Rattle.goal_rows.specs.Outcomes.{Admits, IsReported}
 use Rattle.goal_rows.proofs.Reporting.{one_reported}

@@ -3,14 +3,12 @@ use Rattle.std.proofs.Common.{ℕ, Bool, zero, suc, List, [], ◌∷◌, true, f
 use Rattle.std.proofs.Math.Nat.{mul-le-mul_left}
 use Rattle.std.proofs.lemmas.Bool.{cases_eq, cases_lt}
 use Rattle.std.proofs.lemmas.List.{get_or-replicate, length-replicate}
-use Rattle.std.proofs.lemmas.Bool.Decides.{nat_tests}
 use Rattle.std.proofs.lemmas.Slice.Eq.{bytes_eq-Decides}
 use Rattle.std.specs.Str.{bytes_eq}
-use Rattle.mov_base.specs.Sums.{add_up}
 use Rattle.dhondt_seats.specs.Seats.{IsAllocation, IsFair, reported_seats, seats_in_all}
-use Rattle.dhondt_seats.specs.Serving.{ComesBefore, IsNext, IsServed}
+use Rattle.dhondt_seats.specs.Serving.{IsNext, IsServed}
 use Rattle.dhondt_seats.proofs.Counting.{sum_set}
-use Rattle.dhondt_seats.proofs.Order.{IsFirst, cancel_le, kept, served_more, taken}
+use Rattle.dhondt_seats.proofs.Order.{IsFirst, kept, served_more, taken}
 use Rattle.dhondt_seats.proofs.Shares.{admitted, between, fresh, reported}
 use Rattle.goal_rows.specs.SeatGains.{IsSeatGain}
 

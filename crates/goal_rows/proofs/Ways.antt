@@ -1,6 +1,6 @@
 -- Each pair is reached from the root in just one way, and nothing but the root is on it.
-use Rattle.std.proofs.Common.{ℕ, zero, suc, List, [], ◌∷◌, ◌++◌, true, false, ◌≡◌, ◌≢◌, ◌<◌, ◌∙◌, cond, ap, sym, refl, subst, inl, inr, arith}
-use Rattle.std.specs.Prelude.{◌==◌, Contains, ℤ, length, All, get_or}
+use Rattle.std.proofs.Common.{ℕ, zero, suc, List, [], ◌∷◌, true, false, ◌≡◌, ◌≢◌, ◌<◌, ◌∙◌, ap, sym, refl, subst, inl, inr, arith}
+use Rattle.std.specs.Prelude.{◌==◌, Contains, length, get_or}
 use Rattle.std.specs.List.{AllPairs}
 use Rattle.std.proofs.lemmas.Bool.{cases_eq, cases_lt}
 use Rattle.std.proofs.lemmas.Bool.Decides.{nat_tests}
@@ -10,7 +10,7 @@ use Rattle.std.proofs.lemmas.List.Quantifiers.{all_pairs_push}
 use Rattle.goal_rows.specs.declared.goals.Goal.{Goal}
 use Rattle.goal_rows.specs.declared.goals.Goal.TheVariants.{Root, Pair}
 use Rattle.goal_rows.specs.Goals.{Holds, IsComplete, pairs_below, root_goals, rows_of}
-use Rattle.goal_rows.specs.Ways.{IsAmong, IsReachedOnce, IsWay}
+use Rattle.goal_rows.specs.Ways.{IsReachedOnce, IsWay}
 use Rattle.goal_rows.proofs.Roots.{pairs_are}
 use Rattle.ballot_form.specs.declared.outcome.Outcome.{Outcome}
 use Rattle.ballot_form.specs.declared.rule.Rule.{Rule}

@@ -1,8 +1,8 @@
 // The reported outcome of small contests, and goals that are copied.
-ghost use Rattle.std.specs.Prelude.{◌≡◌};
+ghost use Rattle.std.specs.Prelude.{◌≡◌, ◌≤◌};
 
 use super::*;
-use ballot_form::{Outcome, Roll, Rule, valid_row};
+use ballot_form::{Cand, Outcome, Roll, Rule, valid_row};
 use std::test::Fail;
 
 #[test]
@@ -90,5 +90,57 @@ fn a_pair_has_a_class_for_each_weight(rt: HostRuntime) -> Result<(), Fail> {
     assert!(rt; matches!(node.sums.as_slice().first(), Some(-3)));
     assert_eq!(rt; node.ballots, 7);
     assert_eq!(rt; node.lone, 1);
+    Ok(())
+}
+
+/// A roll of so many candidates with these ballots.
+fn roll_of(rt: HostRuntime, c: u8, ballots: &[(u32, &[Cand])]) -> Roll
+    requires some { 1 ≤ c }
+    requires most { c ≤ 12 }
+{
+    let mut roll = Roll::new(rt.alloc(), c);
+    for (count, row) in ballots {
+        if roll.candidates() == c && valid_row(row, c) {
+            let _ = roll.push_times(row, *count);
+        }
+    }
+    roll
+}
+
+#[test]
+fn borda_of_five(rt: HostRuntime) -> Result<(), Fail> {
+    let roll = roll_of(rt, 3, &[(3, &[0, 1, 2]), (2, &[1, 2, 0])]);
+    let race = race(rt.alloc(), Rule::Borda, &roll)?;
+    assert!(rt; matches!(race.reported, Outcome::Winner(1)));
+    assert!(rt; matches!(race.roots.as_slice(), [Goal::Pair(0, 1), Goal::Pair(2, 1)]));
+    let node = ground(rt.alloc(), &race, &Goal::Pair(0, 1))?;
+    assert!(rt; matches!(node.sums.as_slice(), [-1]));
+    assert_eq!(rt; node.lone, 2);
+    assert_eq!(rt; node.classes.len(), 2);
+    assert_eq!(rt; node.classes.key(0), 1025);
+    assert_eq!(rt; node.classes.key(1), 1022);
+    Ok(())
+}
+
+#[test]
+fn seats_of_nine(rt: HostRuntime) -> Result<(), Fail> {
+    let roll = roll_of(rt, 2, &[(6, &[0]), (3, &[1])]);
+    let race = race(rt.alloc(), Rule::Dhondt(3), &roll)?;
+    assert!(rt; matches!(race.roots.as_slice(), [Goal::Pair(0, 1), Goal::Pair(1, 0)]));
+    let node = ground(rt.alloc(), &race, &Goal::Pair(0, 1))?;
+    assert!(rt; matches!(node.sums.as_slice(), [-3]));
+    assert_eq!(rt; node.lone, 1);
+    let other = ground(rt.alloc(), &race, &Goal::Pair(1, 0))?;
+    assert!(rt; matches!(other.sums.as_slice(), [-6]));
+    assert_eq!(rt; other.lone, 2);
+    let goal = Goal::Pair(0, 1);
+    let mut scratch = [0i64; 780];
+    let after = roll_of(rt, 2, &[(7, &[0]), (2, &[1])]);
+    if is_complete(&race, &goal) && after.candidates() == roll.candidates() && after.len() == roll.len() {
+        assert!(rt; rows_hold(&race, &after, &goal, scratch.as_mut_slice()));
+        assert!(rt; !rows_hold(&race, &roll, &goal, scratch.as_mut_slice()));
+    } else {
+        return Err(Fail::from("the pair is complete"));
+    }
     Ok(())
 }

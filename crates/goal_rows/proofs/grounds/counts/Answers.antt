@@ -1,7 +1,7 @@
-use Rattle.std.proofs.Common.{ap, arith, ◌+◌, ◌*◌, ◌<◌, ◌≡◌, ◌≤◌, ◌∙◌, length, sym}
+use Rattle.std.proofs.Common.{arith, ◌<◌, ◌≡◌, ◌∙◌, length}
 use Rattle.std.proofs.Math.Nat.{mul-le-mul_left}
 use Rattle.goal_rows.specs.Goals.{gainer_points, loser_points}
-use Rattle.goal_rows.proofs.Classed.{counted_all, counted_more, kinds_few, kinds_more}
+use Rattle.goal_rows.proofs.Classed.{counted_all, counted_more, kinds_more}
 use Rattle.goal_rows.proofs.grounds.counts.Goals as goal
 
 pub loop-i-preserved : goal.loop-i-preserved

@@ -1,4 +1,4 @@
-use Rattle.std.proofs.Common.{arith, ◌<◌, ◌≡◌, ◌∙◌, length}
+use Rattle.std.proofs.Common.{arith, ◌<◌, ◌∙◌, length}
 use Rattle.goal_rows.specs.Races.{pair_key}
 use Rattle.goal_rows.proofs.Classed.{class_more}
 use Rattle.goal_rows.proofs.grounds.pair_classes.Goals as goal

@@ -1,4 +1,4 @@
-use Rattle.std.proofs.Common.{ap, arith, ◌+◌, ◌∙◌, sym}
+use Rattle.std.proofs.Common.{arith}
 use Rattle.mov_base.proofs.Sums.{add_up_more}
 use Rattle.goal_rows.specs.Goals.{gainer_points, loser_points}
 use Rattle.goal_rows.proofs.rows.ballot_counts.Goals as goal
