@@ -1,5 +1,5 @@
 -- Goals that are reached are goals of the contest, and a node has few classes.
-use Rattle.std.proofs.Common.{◌≡◌, ℕ, zero, suc, ◌+◌, ◌-◌, ◌<◌, ◌≤◌, List, [], ◌∷◌, Bool, true, false, cond, map, length, get_or, refl, ap, subst, ◌∙◌, arith, All}
+use Rattle.std.proofs.Common.{◌≡◌, ℕ, zero, suc, ◌+◌, ◌-◌, ◌<◌, ◌≤◌, List, [], ◌∷◌, Bool, true, false, cond, map, length, get_or, refl, sym, ap, subst, ◌∙◌, arith, All}
 use Rattle.std.specs.Prelude.{Contains, nat_eq}
 use Rattle.std.proofs.lemmas.List.Elements.{Contains-get_or}
 use Rattle.ballot_form.specs.Ballots.{Poll}
@@ -18,6 +18,7 @@ use Rattle.goal_rows.specs.declared.goals.Goal.{Goal}
 use Rattle.goal_rows.specs.declared.goals.Goal.TheVariants.{Root, Pair}
 use Rattle.goal_rows.specs.declared.parts.Ground.{Ground}
 use Rattle.goal_rows.proofs.Roots.{pairs_are}
+use Rattle.goal_rows.proofs.SeatRoots.{seat_pairs_are}
 use Rattle.dual_bound.specs.Nodes.{IsGoalOf, IsNodeOf}
 
 nothing : {X : Type 0} (x : X) → Contains [] x → ⊥
@@ -30,9 +31,21 @@ reached_is_of Plurality p (Winner x) (Pair g l) is reached =
     (h.0, omega (arith, h.2, is.greatest.stands), λ e. h.1 (e ∙ h.2))
 reached_is_of Plurality p NoWinner (Pair g l) is reached = absurd is
 reached_is_of Plurality p (Seats shares) (Pair g l) is reached = absurd is
-reached_is_of Borda p reported (Pair g l) is reached = absurd (nothing (Pair g l) reached)
-reached_is_of Condorcet p reported (Pair g l) is reached = absurd (nothing (Pair g l) reached)
-reached_is_of (Dhondt seats) p reported (Pair g l) is reached = absurd (nothing (Pair g l) reached)
+reached_is_of Borda p (Winner x) (Pair g l) is reached =
+    let h = pairs_are p.c x g l reached in
+    (h.0, omega (arith, h.2, is.greatest.stands), λ e. h.1 (e ∙ h.2))
+reached_is_of Borda p NoWinner (Pair g l) is reached = absurd is
+reached_is_of Borda p (Seats shares) (Pair g l) is reached = absurd is
+reached_is_of Condorcet p (Winner x) (Pair g l) is reached =
+    let h = pairs_are p.c x g l reached in
+    (h.0, omega (arith, h.2, is.stands), λ e. h.1 (e ∙ h.2))
+reached_is_of Condorcet p NoWinner (Pair g l) is reached = absurd (nothing (Pair g l) reached)
+reached_is_of Condorcet p (Seats shares) (Pair g l) is reached = absurd is
+reached_is_of (Dhondt seats) p (Seats shares) (Pair g l) is reached =
+    let h = seat_pairs_are p.c p.c g l shares reached in
+    (h.0, h.1, λ e. h.2 (sym e))
+reached_is_of (Dhondt seats) p (Winner x) (Pair g l) is reached = absurd is
+reached_is_of (Dhondt seats) p NoWinner (Pair g l) is reached = absurd is
 reached_is_of Irv p reported (Pair g l) is reached = absurd (nothing (Pair g l) reached)
 
 -- ---- classes
