@@ -6,3 +6,4 @@ pub mod Nearest
 pub mod Roots
 pub mod Levels
 pub mod Classed
+pub mod Ways

@@ -8,8 +8,11 @@ ghost use Rattle.ballot_form.specs.declared.rule.Rule.{Rule as ARule};
 ghost use Rattle.goal_rows.specs.Margins.{IsMargin, Turns};
 ghost use Rattle.ballot_form.specs.declared.outcome.Outcome.TheVariants.{Winner};
 ghost use Rattle.ballot_form.specs.declared.rule.Rule.TheVariants.{Plurality};
+ghost use Rattle.goal_rows.specs.Goals.{Holds, IsComplete, IsOnlyWay, IsReached, LeadsTo, root_goals, rows_of};
 ghost use Rattle.goal_rows.specs.Outcomes.{IsReported};
 ghost use Rattle.goal_rows.specs.Pairs.{IsLevel, Reaches};
+ghost use Rattle.goal_rows.specs.declared.goals.Goal.{Goal as AGoal};
+ghost use Rattle.goal_rows.specs.declared.goals.Goal.TheVariants.{Root};
 
 /// There is one reported outcome at most.
 pub fn a_reported_outcome_is_one()
@@ -34,4 +37,23 @@ pub fn replacements_bring_at_most_the_largest_gains()
     ensures { (top : ℕ) (plus minus : List ℕ → ℕ) (p : Poll) (changes : List (ℕ × List ℕ)) →
         ((row : List ℕ) → IsValidBallot p.c row → plus row ≤ top + minus row) → IsAlteration p changes →
         add_up minus (after p changes).rows ≤ add_up plus (after p changes).rows → Reaches top plus minus p.rows (length changes) }
+{}
+
+/// A complete goal is reached from the root through covers in just one way.
+pub fn a_complete_goal_is_reached_in_one_way()
+    ensures { (rule : ARule) (c : ℕ) (reported : AnOutcome) (goal : AGoal) → IsComplete (root_goals rule c reported) goal →
+        (way : List ℕ) × IsOnlyWay (root_goals rule c reported) Root way goal }
+{}
+
+/// Where a complete goal holds, every goal on the way to it from the root holds too.
+pub fn goals_on_the_way_hold()
+    ensures { (rule : ARule) (c : ℕ) (reported : AnOutcome) (between goal : AGoal) (before behind : List ℕ) (rows : List (List ℕ)) →
+        IsComplete (root_goals rule c reported) goal → LeadsTo (root_goals rule c reported) Root before between →
+        LeadsTo (root_goals rule c reported) between behind goal → Holds (rows_of rule c reported goal) rows →
+        Holds (rows_of rule c reported between) rows }
+{}
+
+/// The goals that are reached are those to which a way leads from the root.
+pub fn a_reached_goal_has_a_way()
+    ensures { (roots : List AGoal) (goal : AGoal) → IsReached roots goal ↔ ((way : List ℕ) × LeadsTo roots Root way goal) }
 {}

@@ -16,7 +16,8 @@ mod rows;
 pub use goals::{Goal, GoalList};
 pub use grounds::ground;
 pub use laws::{
-    a_margin_is_one_number, a_reported_outcome_is_one, plurality_turns_where_a_challenger_is_level,
+    a_complete_goal_is_reached_in_one_way, a_margin_is_one_number, a_reached_goal_has_a_way,
+    a_reported_outcome_is_one, goals_on_the_way_hold, plurality_turns_where_a_challenger_is_level,
     replacements_bring_at_most_the_largest_gains,
 };
 pub use outcomes::reported;
