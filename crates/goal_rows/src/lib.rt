@@ -1,7 +1,10 @@
 //! Outcomes, turning, margins and goals.
 //!
 //! In `specs/` stand the definitions of an admitted outcome, of the reported one, of turning the outcome, and of the margin, for
-//! every rule alike; so far plurality has joined them. `reported` answers the reported outcome. The crate stands on `ballot_form`
+//! every rule alike, and goals with their rows: what replacements are to reach so that the outcome turns. `reported` answers the
+//! reported outcome of every rule. Goals are there for plurality so far: `race` promises that the outcome turns exactly where all rows
+//! of some complete goal hold; `cover` gives the goals that a goal is split into, and each complete goal is reached from the root in
+//! just one way; `ground` keeps what is known of a goal before any replacement. The crate stands on `ballot_form`, on `signature_class`
 //! and on the crates that count.
 #![tactic(auto)]
 
