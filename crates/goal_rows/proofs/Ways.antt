@@ -1,6 +1,6 @@
 -- Ways from the root through covers to goals.
-use Rattle.std.proofs.Common.{ℕ, zero, suc, List, [], ◌∷◌, ◌++◌, Option, Some, None, true, false, ◌≡◌, ◌≢◌, ◌<◌, ◌≤◌, ◌+◌, ◌-◌, ◌∙◌, ◌↔◌, cond, length, get_or, ap, sym, refl, subst, inl, inr, arith}
-use Rattle.std.specs.Prelude.{◌==◌, Contains, ℤ, pos, ◌≤ℤ◌}
+use Rattle.std.proofs.Common.{ℕ, zero, suc, List, [], ◌∷◌, ◌++◌, true, false, ◌≡◌, ◌<◌, ◌≤◌, ◌+◌, ◌-◌, ◌∙◌, ◌↔◌, length, get_or, ap, sym, refl, subst, inl, inr, arith}
+use Rattle.std.specs.Prelude.{◌==◌, Contains}
 use Rattle.std.proofs.lemmas.Bool.{cases_eq, cases_lt}
 use Rattle.std.proofs.lemmas.Bool.Decides.{nat_tests}
 use Rattle.std.proofs.lemmas.List.{append-nil, get_or_append_left, get_or-append_right, length-append}
@@ -8,10 +8,9 @@ use Rattle.ballot_form.specs.declared.outcome.Outcome.{Outcome}
 use Rattle.ballot_form.specs.declared.outcome.Outcome.TheVariants.{Winner, NoWinner, Seats}
 use Rattle.ballot_form.specs.declared.rule.Rule.{Rule}
 use Rattle.ballot_form.specs.declared.rule.Rule.TheVariants.{Plurality, Borda, Condorcet, Dhondt, Irv}
-use Rattle.mov_base.specs.Sums.{sum_z}
 use Rattle.goal_rows.specs.declared.goals.Goal.{Goal}
 use Rattle.goal_rows.specs.declared.goals.Goal.TheVariants.{Root, Pair}
-use Rattle.goal_rows.specs.Goals.{Holds, IsComplete, IsKid, IsOnlyWay, IsReached, LeadsTo, cover_of, pairs_below, root_goals, rows_of}
+use Rattle.goal_rows.specs.Goals.{Holds, IsComplete, IsOnlyWay, IsReached, LeadsTo, pairs_below, root_goals, rows_of}
 
 -- ---- the pairs of each other candidate with x
 
