@@ -153,3 +153,14 @@ gains-unique c ls ks (row ∷ rows) (g ∷ gs) (h ∷ hs) p q =
     let e : g ≡ h = omega arith in
     let t = gains-unique c ls ks rows gs hs p.1 q.1 in
     cc
+
+-- ---- a cut at t is a cut at each lower number
+lower_kept : (c : ℕ) (rows : List (List ℕ)) (ks : List Kept) (ls : List ℕ) (t u : ℕ) → u ≤ t → CutsKept c rows ks ls t → CutsKept c rows ks ls u
+lower_kept c rows ks ls t u le (inl z) = inl (omega (arith, z))
+lower_kept c rows ks ls t u le (inr cut) =
+    let m = most-mono (u - 1) (t - 1) cut.0 (omega (arith, le)) in
+    inr (cut.0, cut.1, omega (arith, ints, cut.2, m))
+
+pub cut_below : (rule : Rule) (p : Poll) (reported : Outcome) (goal : Goal) (limits : List Limit) (ls : List ℕ) (t u : ℕ) → u ≤ t → Cuts rule p reported goal limits ls t → Cuts rule p reported goal limits ls u
+cut_below rule p reported goal limits ls t u le cut =
+    lower_kept p.c p.rows (kept_of rule p reported goal limits) ls (min t (length p.rows + 1)) (min u (length p.rows + 1)) (omega (arith, le)) cut

@@ -9,13 +9,25 @@ ghost use Rattle.goal_rows.specs.Goals.{IsReached, root_goals};
 ghost use Rattle.goal_rows.specs.Outcomes.{IsReported};
 ghost use Rattle.goal_rows.specs.declared.goals.Goal.{Goal as AGoal};
 ghost use Rattle.goal_rows.specs.declared.parts.Ground.{Ground as AGround};
-ghost use Rattle.dual_bound.specs.CutTest.{Cuts, IsBound};
-ghost use Rattle.dual_bound.specs.Nodes.{IsGoalOf, IsNodeOf, Meets};
+ghost use Rattle.dual_bound.specs.CutTest.{AreGains, Cuts, IsBound};
+ghost use Rattle.dual_bound.specs.Nodes.{IsGoalOf, IsNodeOf, Kept, Meets};
 
 /// Where multipliers cut a node at `t`, no alteration of fewer than `t` replacements meets it.
 pub fn a_cut_is_sound()
     ensures { (rule : ARule) (p : Poll) (reported : AnOutcome) (goal : AGoal) (limits : List ALimit) (ls : List ℕ) (t : ℕ) (changes : List (ℕ × List ℕ)) →
         Cuts rule p reported goal limits ls t → IsAlteration p changes → length changes < t → Meets rule p reported goal limits changes → ⊥ }
+{}
+
+/// Multipliers that cut a node at `t` cut it at each lower number.
+pub fn a_cut_holds_below()
+    ensures { (rule : ARule) (p : Poll) (reported : AnOutcome) (goal : AGoal) (limits : List ALimit) (ls : List ℕ) (t u : ℕ) →
+        u ≤ t → Cuts rule p reported goal limits ls t → Cuts rule p reported goal limits ls u }
+{}
+
+/// Each ballot has one gain at most.
+pub fn gains_are_one_list()
+    ensures { (c : ℕ) (ls : List ℕ) (kept : List Kept) (rows : List (List ℕ)) (gains others : List ℕ) →
+        AreGains c ls kept rows gains → AreGains c ls kept rows others → gains ≡ others }
 {}
 
 /// There is one greatest number at which multipliers cut a node.

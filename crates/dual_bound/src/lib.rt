@@ -15,7 +15,8 @@ mod pairs;
 mod scratch;
 
 pub use laws::{
-    a_bound_is_one_number, a_cut_is_sound, a_node_has_few_classes, a_reached_goal_is_of_the_contest,
+    a_bound_is_one_number, a_cut_holds_below, a_cut_is_sound, a_node_has_few_classes,
+    a_reached_goal_is_of_the_contest, gains_are_one_list,
 };
 pub use nodes::{bound_of, cuts};
 pub use scratch::Scratch;

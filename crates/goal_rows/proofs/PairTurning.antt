@@ -23,15 +23,14 @@ use Rattle.condorcet_count.specs.Preferences.{pref_of, prefers}
 use Rattle.condorcet_count.specs.Settlings.{IsAdmittedOutcome}
 use Rattle.goal_rows.specs.declared.goals.Goal.{Goal}
 use Rattle.goal_rows.specs.declared.goals.Goal.TheVariants.{Root, Pair}
-use Rattle.goal_rows.specs.Goals.{Holds, IsComplete, IsDecidedByPairs, gainer_points, loser_points, pair_weight, root_goals, rows_of}
+use Rattle.goal_rows.specs.Goals.{Holds, IsComplete, IsDecidedByPairs, IsOnlyWay, gainer_points, loser_points, pair_weight, root_goals, rows_of}
 use Rattle.goal_rows.specs.Margins.{Turns}
 use Rattle.goal_rows.specs.Outcomes.{Admits, IsReported}
 use Rattle.goal_rows.proofs.Reporting.{one_reported}
 use Rattle.goal_rows.proofs.Roots.{one_row, pair_among, pairs_are, turning}
 use Rattle.goal_rows.proofs.SeatMoves.{another_where_gained, reported_allocation}
 use Rattle.goal_rows.proofs.SeatRoots.{seat_pair_among, seat_pairs_are, seat_pairs_once}
-use Rattle.goal_rows.proofs.Ways.{ArePairs, no_pairs, pairs_once, reached_once, roots_once}
-use Rattle.goal_rows.specs.Ways.{IsReachedOnce}
+use Rattle.goal_rows.proofs.Ways.{ArePairs, no_pairs, only_way, pairs_once}
 use Rattle.goal_rows.proofs.Turning.{borda_turns_exactly}
 use Rattle.goal_rows.proofs.Settled.{IsRival, other_of_rival, rival_of_other}
 
@@ -39,8 +38,7 @@ use Rattle.goal_rows.proofs.Settled.{IsRival, other_of_rival, rival_of_other}
 pub pair_row : (rule : Rule) (c : ℕ) (reported : Outcome) (g l : ℕ) (rows : List (List ℕ)) → Holds (rows_of rule c reported (Pair g l)) rows
     ↔ (add_up (loser_points rule c reported g l) rows ≤ add_up (gainer_points rule c reported g l) rows)
 pair_row rule c reported g l rows =
-    let v = sum_z-difference (gainer_points rule c reported g l) (loser_points rule c reported g l) rows in
-    (
+    let v = sum_z-difference (gainer_points rule c reported g l) (loser_points rule c reported g l) rows in (
       λ holds. let h : pos 0 ≤ℤ sum_z (pair_weight rule c reported g l) rows = holds 0 (pair_weight rule c reported g l) (omega arith) in omega (arith, ints, h, v),
       λ level. one_row (pair_weight rule c reported g l) rows (omega (arith, ints, level, v)),
     )
@@ -160,14 +158,17 @@ met_gain : (p : Poll) (s : ℕ) (shares : List ℕ) (changes : List (ℕ × List
 met_gain p s shares changes (Root, complete, holds) = absurd complete
 met_gain p s shares changes (Pair g l, complete, holds) =
     let is = seat_pairs_are p.c p.c g l shares complete in
-    let long = votes_long (after p changes) in
-    (g, l, record {
-      gainer = omega (arith, is.0);
-      loser = omega (arith, is.1);
-      differ = λ e. is.2 (sym e);
-      seated = is.3;
-      reaches = (seat_row p (after p changes) s shares g l is.0 is.1).0 holds;
-    })
+    let long = votes_long (after p changes) in (
+      g,
+      l,
+      record {
+        gainer = omega (arith, is.0);
+        loser = omega (arith, is.1);
+        differ = λ e. is.2 (sym e);
+        seated = is.3;
+        reaches = (seat_row p (after p changes) s shares g l is.0 is.1).0 holds;
+      },
+    )
 
 turn_of_another : (p : Poll) (s : ℕ) (shares : List ℕ) (changes : List (ℕ × List ℕ)) → IsReported (Dhondt s) p (Seats shares)
     → ((other : List ℕ) × (other ≢ shares) × IsAllocation (votes_of (after p changes)) s other) → Turns (Dhondt s) p changes
@@ -186,8 +187,7 @@ seat_turning p s shares changes poll is =
     let here = reported_allocation (votes_of p) s (length_votes p poll) in
     let long : length shares ≡ length (votes_of (after p changes)) = ap length is ∙ here.parties ∙ votes_long p ∙ sym (votes_long (after p changes)) in
     let sum : seats_in_all shares ≡ s = ap seats_in_all is ∙ here.all in
-    let exactly = another_where_gained (votes_of (after p changes)) shares s some long sum in
-    (
+    let exactly = another_where_gained (votes_of (after p changes)) shares s some long sum in (
       λ turns. gain_met p s shares changes (exactly.0 (another_of_turn p s shares changes turns.0 is turns.1 turns.2)),
       λ met. turn_of_another p s shares changes is (exactly.1 (met_gain p s shares changes met)),
     )
@@ -209,7 +209,9 @@ pair_turning (Dhondt s) p NoWinner changes paired poll is = absurd is
 pair_turning Irv p reported changes paired poll is = absurd paired
 
 pub each_once : (rule : Rule) (c : ℕ) (reported : Outcome) → ArePairs (root_goals rule c reported)
-each_once Plurality c reported = roots_once c reported
+each_once Plurality c (Winner x) = pairs_once c x
+each_once Plurality c NoWinner = no_pairs
+each_once Plurality c (Seats shares) = no_pairs
 each_once Borda c (Winner x) = pairs_once c x
 each_once Borda c NoWinner = no_pairs
 each_once Borda c (Seats shares) = no_pairs
@@ -221,5 +223,5 @@ each_once (Dhondt s) c (Winner x) = no_pairs
 each_once (Dhondt s) c NoWinner = no_pairs
 each_once Irv c reported = no_pairs
 
-pub pairs_reached_once : (rule : Rule) (c : ℕ) (reported : Outcome) (goal : Goal) → IsComplete (root_goals rule c reported) goal → IsReachedOnce (root_goals rule c reported) goal
-pairs_reached_once rule c reported goal complete = reached_once (root_goals rule c reported) goal (each_once rule c reported) complete
+pub one_way : (rule : Rule) (c : ℕ) (reported : Outcome) (goal : Goal) → IsComplete (root_goals rule c reported) goal → (way : List ℕ) × IsOnlyWay (root_goals rule c reported) Root way goal
+one_way rule c reported goal complete = only_way (root_goals rule c reported) goal (each_once rule c reported) complete

@@ -115,14 +115,17 @@ gain_of_allocation votes shares other s long sum differ is =
     let l = lost.0 in
     let fair = is.fair g l (omega (arith, won.1)) (omega (arith, lost.1)) (omega (arith, won.2)) in
     let up = product_le (get_or votes l 0) (get_or votes l 0) (get_or shares g 0 + 1) (get_or other g 0) (omega arith) (omega (arith, won.2)) in
-    let down = product_le (get_or votes g 0) (get_or votes g 0) (get_or other l 0 + 1) (get_or shares l 0) (omega arith) (omega (arith, lost.2)) in
-    (g, l, record {
-      gainer = omega (arith, won.1);
-      loser = omega (arith, lost.1);
-      differ = λ e. let w = won.2 in let v = subst (λ i. get_or other i 0 < get_or shares i 0) (sym e) lost.2 in omega (arith, w, v);
-      seated = omega (arith, lost.2);
-      reaches = omega (arith, up, fair, down);
-    })
+    let down = product_le (get_or votes g 0) (get_or votes g 0) (get_or other l 0 + 1) (get_or shares l 0) (omega arith) (omega (arith, lost.2)) in (
+      g,
+      l,
+      record {
+        gainer = omega (arith, won.1);
+        loser = omega (arith, lost.1);
+        differ = λ e. let w = won.2 in let v = subst (λ i. get_or other i 0 < get_or shares i 0) (sym e) lost.2 in omega (arith, w, v);
+        seated = omega (arith, lost.2);
+        reaches = omega (arith, up, fair, down);
+      },
+    )
 
 -- ---- a gain leaves another allocation
 
@@ -158,7 +161,7 @@ sum_moved shares g l gl ll differ some =
     let at_l : get_or gained l 0 ≡ get_or shares l 0 = get_or-set_other shares g l (get_or shares g 0 + 1) 0 (λ e. differ (sym e)) in
     let up = sum_set shares g gl in
     let down : seats_in_all (set gained l (get_or shares l 0 - 1)) + 1 ≡ seats_in_all gained =
-        subst (λ n. seats_in_all (set gained l (n - 1)) + 1 ≡ seats_in_all gained) at_l (sum_taken gained l (omega arith) (omega (arith, at_l))) in
+    subst (λ n. seats_in_all (set gained l (n - 1)) + 1 ≡ seats_in_all gained) at_l (sum_taken gained l (omega arith) (omega (arith, at_l))) in
     omega (arith, up, down)
 
 module _ (votes shares new : List ℕ) (g l : ℕ) (is : IsSeatGain votes shares g l) (fair : IsFair votes shares) (move : IsMoved shares new g l) where
@@ -205,8 +208,7 @@ other_by_move votes shares s g l alloc is =
     let ll : l < length shares = (let h = is.loser in omega arith) in
     let new = moved shares g l in
     let move = is_moved shares g l gl ll is.differ is.seated in
-    let long : length new ≡ length shares = length-set (set shares g (get_or shares g 0 + 1)) l (get_or shares l 0 - 1) ∙ length-set shares g (get_or shares g 0 + 1) in
-    (
+    let long : length new ≡ length shares = length-set (set shares g (get_or shares g 0 + 1)) l (get_or shares l 0 - 1) ∙ length-set shares g (get_or shares g 0 + 1) in (
       new,
       λ e. let here = move.gained in let same : get_or new g 0 ≡ get_or shares g 0 = ap (λ xs. get_or xs g 0) e in omega arith,
       record {

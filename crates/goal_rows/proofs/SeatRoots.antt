@@ -86,11 +86,11 @@ append_once [] ys one two apart = two
 append_once (x ∷ xs) ys one two apart =
     let rest = append_once xs ys (tail_once x xs one) two (λ g a b. apart g (suc a.0, omega (arith, a.1), a.2) b) in
     AllPairs-cons (λ a b. a ≢ b) x (xs ++ ys) (λ k d lt e.
-        let there : Contains (xs ++ ys) x = (k, lt, get_or_default (xs ++ ys) k x d lt ∙ sym e) in
-        elim (Contains-append_cases xs ys x there) [
-          | inl front ↦ one 0 (suc front.0) x (omega arith) (omega (arith, front.1)) (sym front.2)
-          | inr back ↦ apart x (0, omega arith, refl) back
-        ]) rest
+    let there : Contains (xs ++ ys) x = (k, lt, get_or_default (xs ++ ys) k x d lt ∙ sym e) in
+    elim (Contains-append_cases xs ys x there) [
+      | inl front ↦ one 0 (suc front.0) x (omega arith) (omega (arith, front.1)) (sym front.2)
+      | inr back ↦ apart x (0, omega arith, refl) back
+    ]) rest
 
 none_once : AllPairs {X = Goal} (λ a b. a ≢ b) []
 none_once i j d less lt = absurd (omega (arith, lt))

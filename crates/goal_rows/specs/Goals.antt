@@ -1,6 +1,6 @@
 -- Goals and their rows. A row gives each ballot a whole weight, and holds on a list of ballots where the sum of the weights is at
 -- least 0. The outcome turns exactly where all rows of some complete goal hold after the replacements.
-use Rattle.std.specs.Prelude.{ℕ, ◌+◌, ◌==◌, ◌&&◌, not, nat_lt, List, [], ◌∷◌, ◌++◌, Contains, All, Option, Some, None, if◌then◌else◌, slice_index, ℤ, pos, ◌-ℤ◌, ◌≤ℤ◌}
+use Rattle.std.specs.Prelude.{◌≡◌, ℕ, ◌+◌, ◌<◌, ◌==◌, ◌&&◌, not, nat_lt, List, [], ◌∷◌, ◌++◌, Contains, All, Option, Some, None, if◌then◌else◌, length, slice_index, slice_index_or, ℤ, pos, ◌-ℤ◌, ◌≤ℤ◌}
 use Rattle.std.proofs.Common.{zero, suc}
 use Rattle.mov_base.specs.Sums.{sum_z}
 use Rattle.ballot_form.specs.Scores.{borda_points, is_first, plurality_points}
@@ -91,3 +91,17 @@ IsComplete roots (Pair g l) = Contains roots (Pair g l)
 abbrev pub IsReached : List Goal → Goal → Type 0
 IsReached roots Root = Unit {0}
 IsReached roots (Pair g l) = Contains roots (Pair g l)
+
+-- the goal at this place of a goal's cover, from 0
+abbrev pub IsKid : List Goal → Goal → ℕ → Goal → Type 0
+IsKid roots goal place kid = (kids : List Goal) × (cover_of roots goal ≡ Some kids) × (place < length kids) × (slice_index_or kids place kid ≡ kid)
+
+-- a way through covers from a goal to another, by the places of the goals on it
+abbrev pub LeadsTo : List Goal → Goal → List ℕ → Goal → Type 0
+LeadsTo roots goal [] end = goal ≡ end
+LeadsTo roots goal (place ∷ places) end = (kid : Goal) × IsKid roots goal place kid × LeadsTo roots kid places end
+
+-- this way leads there, and no other one does
+pub record IsOnlyWay (roots : List Goal) (goal : Goal) (way : List ℕ) (end : Goal) : Type 0 where
+  pub leads : LeadsTo roots goal way end
+  pub only : (other : List ℕ) → LeadsTo roots goal other end → other ≡ way

@@ -3,5 +3,4 @@ pub mod Margins
 pub mod Pairs
 pub mod Goals
 pub mod Races
-pub mod Ways
 pub mod SeatGains

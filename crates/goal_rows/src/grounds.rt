@@ -100,7 +100,9 @@ fn pair_classes(
 fn key(race: &Race<'_>, gainer: Cand, loser: Cand, row: &[Cand]) -> u64
     ensures { result ≡ pair_key race.now.rule race.now.roll.now.c race.now.reported gainer loser row.now }
 {
-    (for_gainer(race, gainer, loser, row) + 1024).saturating_sub(for_loser(race, gainer, loser, row))
+    (for_gainer(race, gainer, loser, row) + 1024).saturating_sub(for_loser(
+        race, gainer, loser, row,
+    ))
 }
 
 /// What all ballots count for the gainer, and what they count for the loser.

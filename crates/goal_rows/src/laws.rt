@@ -3,19 +3,18 @@ ghost use Rattle.std.specs.Prelude.{◌≡◌, ◌≢◌, ◌↔◌, ◌+◌, �
 ghost use Rattle.mov_base.specs.Sums.{add_up};
 ghost use Rattle.ballot_form.specs.Alterations.{IsAlteration, after};
 ghost use Rattle.ballot_form.specs.Ballots.{IsPoll, IsValidBallot, Poll};
-ghost use Rattle.ballot_form.specs.Rules.{IsRule};
 ghost use Rattle.ballot_form.specs.Scores.{plurality_points};
 ghost use Rattle.ballot_form.specs.declared.outcome.Outcome.{Outcome as AnOutcome};
 ghost use Rattle.ballot_form.specs.declared.rule.Rule.{Rule as ARule};
-ghost use Rattle.goal_rows.specs.Goals.{Holds, IsComplete, IsDecidedByPairs, root_goals, rows_of};
+ghost use Rattle.goal_rows.specs.Goals.{Holds, IsComplete, IsDecidedByPairs, IsOnlyWay, IsReached, LeadsTo, root_goals, rows_of};
 ghost use Rattle.goal_rows.specs.Margins.{IsMargin, Turns};
 ghost use Rattle.ballot_form.specs.declared.outcome.Outcome.TheVariants.{Winner};
 ghost use Rattle.ballot_form.specs.declared.rule.Rule.TheVariants.{Plurality};
 ghost use Rattle.goal_rows.specs.Outcomes.{IsReported};
 ghost use Rattle.goal_rows.specs.Pairs.{IsLevel, Reaches};
 ghost use Rattle.goal_rows.specs.SeatGains.{IsSeatGain};
-ghost use Rattle.goal_rows.specs.Ways.{IsReachedOnce};
 ghost use Rattle.goal_rows.specs.declared.goals.Goal.{Goal as AGoal};
+ghost use Rattle.goal_rows.specs.declared.goals.Goal.TheVariants.{Root};
 ghost use Rattle.dhondt_seats.specs.Seats.{IsAllocation, seats_in_all};
 
 /// There is one reported outcome at most.
@@ -51,11 +50,28 @@ pub fn other_seats_are_admitted_where_a_party_gains()
 {}
 
 /// Under the rules that are decided by pairs the outcome turns exactly where the rows of some complete goal hold after the
-/// replacements, and each complete goal is reached from the root in just one way.
+/// replacements.
 pub fn the_outcome_turns_where_a_pair_holds()
-    ensures turning { (rule : ARule) (p : Poll) (reported : AnOutcome) (changes : List (ℕ × List ℕ)) → IsDecidedByPairs rule reported → IsPoll p →
+    ensures { (rule : ARule) (p : Poll) (reported : AnOutcome) (changes : List (ℕ × List ℕ)) → IsDecidedByPairs rule reported → IsPoll p →
         IsReported rule p reported → Turns rule p changes
         ↔ ((goal : AGoal) × IsComplete (root_goals rule p.c reported) goal × Holds (rows_of rule p.c reported goal) (after p changes).rows) }
-    ensures once { (rule : ARule) (c : ℕ) (reported : AnOutcome) (goal : AGoal) → IsComplete (root_goals rule c reported) goal →
-        IsReachedOnce (root_goals rule c reported) goal }
+{}
+
+/// A complete goal is reached from the root through covers in just one way.
+pub fn a_complete_goal_is_reached_in_one_way()
+    ensures { (rule : ARule) (c : ℕ) (reported : AnOutcome) (goal : AGoal) → IsComplete (root_goals rule c reported) goal →
+        (way : List ℕ) × IsOnlyWay (root_goals rule c reported) Root way goal }
+{}
+
+/// Where a complete goal holds, every goal on the way to it from the root holds too.
+pub fn goals_on_the_way_hold()
+    ensures { (rule : ARule) (c : ℕ) (reported : AnOutcome) (between goal : AGoal) (before behind : List ℕ) (rows : List (List ℕ)) →
+        IsComplete (root_goals rule c reported) goal → LeadsTo (root_goals rule c reported) Root before between →
+        LeadsTo (root_goals rule c reported) between behind goal → Holds (rows_of rule c reported goal) rows →
+        Holds (rows_of rule c reported between) rows }
+{}
+
+/// The goals that are reached are those to which a way leads from the root.
+pub fn a_reached_goal_has_a_way()
+    ensures { (roots : List AGoal) (goal : AGoal) → IsReached roots goal ↔ ((way : List ℕ) × LeadsTo roots Root way goal) }
 {}

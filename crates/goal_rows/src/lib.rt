@@ -1,8 +1,12 @@
 //! Outcomes, turning, margins and goals.
 //!
 //! In `specs/` stand the definitions of an admitted outcome, of the reported one, of turning the outcome, and of the margin, for
-//! every rule alike; so far plurality has joined them. `reported` answers the reported outcome. The crate stands on `ballot_form`
-//! and on the crates that count.
+//! every rule alike, and goals with their rows: what replacements are to reach so that the outcome turns. `reported` answers the
+//! reported outcome of every rule. Goals are there so far for the rules that are decided by pairs of candidates, which are all but
+//! instant runoff and Condorcet's where there is no winner: `race` promises that the outcome turns exactly where all rows of some
+//! complete goal hold; `cover` gives the goals that a goal is split into, and each complete goal is reached from the root in just one
+//! way; `ground` keeps what is known of a goal before any replacement. The crate stands on `ballot_form`, on `signature_class` and on
+//! the crates that count.
 #![tactic(auto)]
 
 mod goals;
@@ -17,9 +21,10 @@ mod rows;
 pub use goals::{Goal, GoalList};
 pub use grounds::ground;
 pub use laws::{
-    a_margin_is_one_number, a_reported_outcome_is_one,
-    other_seats_are_admitted_where_a_party_gains, plurality_turns_where_a_challenger_is_level,
-    replacements_bring_at_most_the_largest_gains, the_outcome_turns_where_a_pair_holds,
+    a_complete_goal_is_reached_in_one_way, a_margin_is_one_number, a_reached_goal_has_a_way,
+    a_reported_outcome_is_one, goals_on_the_way_hold, other_seats_are_admitted_where_a_party_gains,
+    plurality_turns_where_a_challenger_is_level, replacements_bring_at_most_the_largest_gains,
+    the_outcome_turns_where_a_pair_holds,
 };
 pub use outcomes::reported;
 pub use races::{cover, is_complete, kid_count, race};

@@ -7,7 +7,6 @@ ghost use Rattle.goal_rows.specs.Goals.{Holds, IsComplete, IsDecidedByPairs, cov
 ghost use Rattle.goal_rows.specs.Margins.{Turns};
 ghost use Rattle.goal_rows.specs.Outcomes.{IsReported};
 ghost use Rattle.goal_rows.specs.Races.{IsRace};
-ghost use Rattle.goal_rows.specs.Ways.{IsReachedOnce, IsWay};
 ghost use Rattle.goal_rows.specs.declared.goals.Goal.{Goal as AGoal};
 ghost use Rattle.goal_rows.specs.declared.goals.Goal.TheVariants.{Pair};
 
@@ -32,11 +31,6 @@ pub fn race<'a>(alloc: Global, rule: Rule, roll: &'a Roll) -> Result<Race<'a>, M
     // The outcome turns exactly where all rows of some complete goal hold after the replacements.
     ensures turning { IfOk result (λ race. (changes : List (ℕ × List ℕ)) → Turns rule roll.now changes
         ↔ ((goal : AGoal) × IsComplete race.roots goal × Holds (rows_of rule roll.now.c race.reported goal) (after roll.now changes).rows)) }
-    // Each complete goal is reached from the root in just one way.
-    ensures once { IfOk result (λ race. (goal : AGoal) → IsComplete race.roots goal → IsReachedOnce race.roots goal) }
-    // Where the rows of a goal hold, so do those of each goal on the way to it.
-    ensures on_the_way { IfOk result (λ race. (goal between : AGoal) (way : List ℕ) (rows : List (List ℕ)) → IsWay race.roots between way goal →
-        Holds (rows_of rule roll.now.c race.reported goal) rows → Holds (rows_of rule roll.now.c race.reported between) rows) }
 {
     let kinds = kinds(alloc, roll)?;
     let reported = reported(alloc, rule, roll)?;

@@ -136,7 +136,10 @@ fn seats_of_nine(rt: HostRuntime) -> Result<(), Fail> {
     let goal = Goal::Pair(0, 1);
     let mut scratch = [0i64; 780];
     let after = roll_of(rt, 2, &[(7, &[0]), (2, &[1])]);
-    if is_complete(&race, &goal) && after.candidates() == roll.candidates() && after.len() == roll.len() {
+    if is_complete(&race, &goal)
+        && after.candidates() == roll.candidates()
+        && after.len() == roll.len()
+    {
         assert!(rt; rows_hold(&race, &after, &goal, scratch.as_mut_slice()));
         assert!(rt; !rows_hold(&race, &roll, &goal, scratch.as_mut_slice()));
     } else {

@@ -27,7 +27,7 @@ behind : {X : Type 0} (P : X → Type 0) (xs ys : List X) → All P (xs ++ ys) �
 behind P [] ys all = all
 behind P (x ∷ xs) ys all = behind P xs ys (All-tail P x (xs ++ ys) all)
 
-covered : (cover : Option (List Goal)) (n : ℕ) → option_map length cover ≡ Some n → (goals : List Goal) × (cover ≡ Some goals) × (length goals ≡ n)
+pub covered : (cover : Option (List Goal)) (n : ℕ) → option_map length cover ≡ Some n → (goals : List Goal) × (cover ≡ Some goals) × (length goals ≡ n)
 covered None n many = cc (many)
 covered (Some goals) n many = (goals, refl, cc (many))
 

@@ -21,7 +21,7 @@ use Rattle.margin_check.specs.Visits.{Visit, visits}
 abbrev pub HasSizes : Poll → Cert → Type 0
 HasSizes p cert = (cert.c ≡ p.c) × (cert.ballots ≡ length p.rows)
 
--- the goal that a certificate names
+-- the goal that a certificate names. An order and a cover are goals of other rules, which aren't there yet: they name none
 abbrev pub named_goal : Option GoalText → Option Goal
 named_goal None = None
 named_goal (Some (Order order)) = None

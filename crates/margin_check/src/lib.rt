@@ -15,7 +15,10 @@ mod verdict;
 mod walk;
 
 pub use checker::check;
-pub use laws::{a_valid_certificate_is_true, a_verdict_is_one, shape_and_cuts_are_a_proof};
+pub use laws::{
+    a_valid_certificate_is_true, a_verdict_is_one, shape_and_cuts_are_a_proof,
+    visits_are_the_nodes_in_preorder,
+};
 pub use verdict::{Reason, Verdict};
 
 #[cfg(test)]

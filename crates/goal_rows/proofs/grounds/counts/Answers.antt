@@ -10,9 +10,9 @@ loop-i-preserved c =
     let count : c.from-count.result ≡ c.count.result = c.from-count.ensures in
     let n_is = count ∙ c.count.ensures in
     let gain = counted_more (gainer_points c.args.race.now.rule c.args.race.now.roll.now.c c.args.race.now.reported c.args.gainer c.args.loser) c.loop-i.i c.args.race.now.kinds c.row-row.result.now
-            c.from-count.result c.for_gainer.result c.loop-i.gained lt c.row-row.ensures n_is c.for_gainer.ensures.value c.loop-i.invariant.0 in
+    c.from-count.result c.for_gainer.result c.loop-i.gained lt c.row-row.ensures n_is c.for_gainer.ensures.value c.loop-i.invariant.0 in
     let loss = counted_more (loser_points c.args.race.now.rule c.args.race.now.roll.now.c c.args.race.now.reported c.args.gainer c.args.loser) c.loop-i.i c.args.race.now.kinds c.row-row.result.now
-            c.from-count.result c.for_loser.result c.loop-i.lost lt c.row-row.ensures n_is c.for_loser.ensures.value c.loop-i.invariant.1 in
+    c.from-count.result c.for_loser.result c.loop-i.lost lt c.row-row.ensures n_is c.for_loser.ensures.value c.loop-i.invariant.1 in
     let more = kinds_more c.loop-i.i c.args.race.now.kinds c.from-count.result lt n_is in
     let up = mul-le-mul_left c.from-count.result c.for_gainer.ensures.few in
     let down = mul-le-mul_left c.from-count.result c.for_loser.ensures.few in

@@ -4,8 +4,7 @@ use Rattle.ballot_form.specs.Alterations.{after}
 use Rattle.goal_rows.specs.Goals.{Holds, IsComplete, root_goals, rows_of}
 use Rattle.goal_rows.specs.Margins.{Turns}
 use Rattle.goal_rows.specs.declared.goals.Goal.{Goal}
-use Rattle.goal_rows.proofs.PairTurning.{each_once, pair_turning}
-use Rattle.goal_rows.proofs.Ways.{ArePairs, held_before, reached_once}
+use Rattle.goal_rows.proofs.PairTurning.{pair_turning}
 use Rattle.goal_rows.proofs.races.race.Goals as goal
 
 pub returns-clause-turning : goal.returns-clause-turning
@@ -15,13 +14,3 @@ returns-clause-turning c =
     ↔ ((goal : Goal) × IsComplete gs goal × Holds (rows_of c.args.rule c.args.roll.now.c c.in_ok-reported.reported goal) (after c.args.roll.now changes).rows)) (sym roots)
     (pair_turning c.args.rule c.args.roll.now c.in_ok-reported.reported changes (c.requires.pairs c.in_ok-reported.reported c.in_ok-reported.ensures.reported) c.candidates.ensures.poll
     c.in_ok-reported.ensures.reported)
-
-pub returns-clause-once : goal.returns-clause-once
-returns-clause-once c =
-    let roots = c.in_ok-roots.ensures ∙ ap (λ n. root_goals c.args.rule n c.in_ok-reported.reported) c.candidates.ensures.value in
-    let are = subst ArePairs (sym roots) (each_once c.args.rule c.args.roll.now.c c.in_ok-reported.reported) in
-    λ goal complete. reached_once c.in_ok-roots.roots goal are complete
-
-pub returns-clause-on_the_way : goal.returns-clause-on_the_way
-returns-clause-on_the_way c = λ goal between way rows leads holds.
-    held_before c.args.rule c.args.roll.now.c c.in_ok-reported.reported c.in_ok-roots.roots goal between way rows leads holds
