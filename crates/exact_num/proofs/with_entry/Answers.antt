@@ -1,5 +1,5 @@
 use Rattle.std.proofs.Common.{arith, refl, ◌≡◌, subst, ℕ}
-use Rattle.std.specs.Prelude.{unsigned_abs, pos}
+use Rattle.std.specs.Prelude.{unsigned_abs}
 use Rattle.std.specs.Int.{IsGcd}
 use Rattle.std.specs.Int.RustNames.{FitsSigned}
 use mir.Syntax.{w128}
