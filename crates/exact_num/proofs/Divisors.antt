@@ -27,6 +27,9 @@ IsGcd-gcd_of a b = IsGcd-euclid (suc b) a b (omega arith)
 pub gcd_of_is : (a b g : ℕ) → IsGcd a b g → g ≡ gcd_of a b
 gcd_of_is a b g h = same_from_IsGcd a b g (gcd_of a b) h (IsGcd-gcd_of a b)
 
+pub IsGcd-swapped : (a b g : ℕ) → IsGcd a b g → IsGcd b a g
+IsGcd-swapped a b g h = (h.1, h.0, λ d i j. h.2 d j i)
+
 -- ---- a row whose greatest common divisor is 0
 zero_from_gcd : (a b : ℕ) → gcd_of a b ≡ 0 → (a ≡ 0) × (b ≡ 0)
 zero_from_gcd a b e = let g = IsGcd-gcd_of a b in (eq-zero_of_zero-dvd (subst (λ (m : ℕ). m ∣ a) e g.0), eq-zero_of_zero-dvd (subst (λ (m : ℕ). m ∣ b) e g.1))
@@ -41,7 +44,7 @@ zero_fold g (x ∷ row) e =
     let both = zero_from_gcd g (unsigned_abs x) rest.0 in
     (both.0, All-cons (λ (y : ℤ). y ≡ pos 0) x row (zero_abs x both.1) rest.1)
 
-zero_map : (f : ℤ → ℤ) (row : List ℤ) → f (pos 0) ≡ pos 0 → All (λ x. x ≡ pos 0) row → map f row ≡ row
+pub zero_map : (f : ℤ → ℤ) (row : List ℤ) → f (pos 0) ≡ pos 0 → All (λ x. x ≡ pos 0) row → map f row ≡ row
 zero_map f [] z a = refl
 zero_map f (x ∷ row) z a =
     let here : x ≡ pos 0 = a 0 (pos 0) (omega arith) in

@@ -5,11 +5,11 @@
 //! No call takes memory or refuses. It stands on nothing.
 #![tactic(auto)]
 
-ghost use Rattle.std.specs.Prelude.{◌≡◌, ℕ, ℤ, pos, ◌<◌, ◌^◌, ◌*ℤ◌, ◌-ℤ◌, ◌<ℤ◌, ◌≤ℤ◌, unsigned_abs, map};
+ghost use Rattle.std.specs.Prelude.{◌≡◌, ℕ, ℤ, pos, ◌<◌, ◌^◌, ◌*ℤ◌, ◌-ℤ◌, ◌<ℤ◌, ◌≤ℤ◌, ◌/◌, unsigned_abs, map};
 ghost use Rattle.std.specs.Int.{IsGcd};
 ghost use Rattle.std.specs.Int.RustNames.{int_div};
 ghost use Rattle.std.specs.List.{All};
-ghost use Rattle.exact_num.specs.Divisors.{gcd_of, row_gcd, primitive, IsPrimitive};
+ghost use Rattle.exact_num.specs.Divisors.{gcd_of, gcd_with, row_gcd, primitive, IsPrimitive};
 
 mod ratio;
 
@@ -19,6 +19,33 @@ pub use ratio::Ratio;
 pub fn gcd(a: u128, b: u128) -> u128
     ensures divisor { IsGcd a b result }
     ensures value { result ≡ gcd_of a b }
+{
+    let mut x = a;
+    let mut y = b;
+    while y >= 1 << 64 {
+        let rest = x % y;
+        x = y;
+        y = rest;
+    }
+    mixed_gcd(x, y as u64)
+}
+
+/// The greatest common divisor, where the second number has 64 bits: at most one division of more.
+fn mixed_gcd(x: u128, y: u64) -> u128
+    ensures { IsGcd x y result }
+{
+    if x < 1 << 64 {
+        narrow_gcd(x as u64, y) as u128
+    } else if y == 0 {
+        x
+    } else {
+        narrow_gcd(y, (x % y as u128) as u64) as u128
+    }
+}
+
+/// The greatest common divisor of two numbers of 64 bits.
+fn narrow_gcd(a: u64, b: u64) -> u64
+    ensures { IsGcd a b result }
 {
     let mut x = a;
     let mut y = b;
@@ -62,7 +89,7 @@ pub fn reduce_row(row: &mut [i128])
 {
     let mut divisor = 0;
     'measured: for x in row.iter() {
-        divisor = gcd(divisor, x.unsigned_abs());
+        divisor = with_entry(divisor, *x);
         if divisor == 1 {
             return;
         }
@@ -74,14 +101,40 @@ pub fn reduce_row(row: &mut [i128])
     }
 }
 
+/// The greatest common divisor of the entries so far and one more.
+fn with_entry(divisor: u128, x: i128) -> u128
+    ensures { result ≡ gcd_with divisor x }
+{
+    if x == 0 {
+        divisor
+    } else {
+        gcd(x.unsigned_abs(), divisor)
+    }
+}
+
 /// x divided by the divisor, toward 0.
 fn part_of(x: i128, divisor: u128) -> i128
     requires positive { 0 < divisor }
     requires small { unsigned_abs x < 2 ^ 127 }
     ensures { result ≡ int_div x (pos divisor) }
 {
-    let size = x.unsigned_abs() / divisor;
+    if x == 0 {
+        return 0;
+    }
+    let size = size_part(x.unsigned_abs(), divisor);
     if x < 0 { -(size as i128) } else { size as i128 }
+}
+
+/// The size divided by the divisor, in 64 bits where both have no more.
+fn size_part(size: u128, divisor: u128) -> u128
+    requires { 0 < divisor }
+    ensures { result ≡ size / divisor }
+{
+    if size < 1 << 64 && divisor < 1 << 64 {
+        (size as u64 / divisor as u64) as u128
+    } else {
+        size / divisor
+    }
 }
 
 #[cfg(test)]

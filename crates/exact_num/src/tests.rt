@@ -9,6 +9,9 @@ fn divisors(rt: HostRuntime) {
     assert_eq!(rt; gcd(12, 18), 6);
     assert_eq!(rt; gcd(35, 64), 1);
     assert_eq!(rt; gcd(1 << 127, 1 << 126), 1 << 126);
+    assert_eq!(rt; gcd(3 << 70, 9), 3);
+    assert_eq!(rt; gcd(9, 3 << 70), 3);
+    assert_eq!(rt; gcd(3 << 70, 1), 1);
 }
 
 #[test]
@@ -30,6 +33,12 @@ fn rows_are_reduced(rt: HostRuntime) {
     let mut row = [6, -9, 0, 15];
     reduce_row(&mut row);
     assert_eq!(rt; row.as_slice(), [2, -3, 0, 5].as_slice());
+    let mut wide = [6 << 70, -9, 0, 15 << 64];
+    reduce_row(&mut wide);
+    assert_eq!(rt; wide.as_slice(), [2 << 70, -3, 0, 5 << 64].as_slice());
+    let mut wide_divisor = [6 << 70, -(9 << 70)];
+    reduce_row(&mut wide_divisor);
+    assert_eq!(rt; wide_divisor.as_slice(), [2, -3].as_slice());
     let mut zeros = [0, 0];
     reduce_row(&mut zeros);
     assert_eq!(rt; zeros.as_slice(), [0, 0].as_slice());

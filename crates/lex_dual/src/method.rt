@@ -7,7 +7,7 @@ ghost use Rattle.dual_theory.specs.Ends.{IsWideSize};
 ghost use Rattle.dual_theory.specs.Multipliers.{BoundsCost, RulesOut, IsLowest};
 ghost use Rattle.lex_dual.specs.Choices.{places_of};
 ghost use Rattle.lex_dual.specs.Faults.{IfWide};
-ghost use Rattle.lex_dual.specs.Answers.{OnBest, OnNever, multipliers_in, HasNoPoint};
+ghost use Rattle.lex_dual.specs.Answers.{OnBest, OnNever, multipliers_in, HasNoPoint, IsReadAtBest, IsReadAtNever};
 ghost use Rattle.lex_dual.specs.Reached.{IsReached};
 
 use crate::choice::{entering, leaving};
@@ -23,6 +23,8 @@ use std::alloc::Global;
 /// The least cost over all points that meet the rows, with the lexicographically least point of that cost; or that no point
 /// meets them. The multipliers, one a kept row, show it for all points that meet the other rows: where the sum of multipliers
 /// times kept rows isn't negative, the cost is at least the value; where there is no point, the sum is always negative.
+/// They are the sizes of the entries of these rows' slacks in one equation of the method's last form, divided by their greatest
+/// common divisor: in that of the cost, or, where there is no point, of the first negative variable.
 ///
 /// `Wide` comes where a form on the way has an entry or a right side of 63 bits or more, or at the end the point such a number.
 /// It names the first of these: in the first such form, row by row, each right side after its columns; else the first of the
@@ -33,6 +35,8 @@ pub fn solve(alloc: Global, program: &Program) -> Result<Solved, SolveFault>
     ensures cost_shown { IfOk result (OnBest (λ value multipliers _. BoundsCost program.now multipliers value.num value.den)) }
     ensures no_point { IfOk result (OnNever (λ _. HasNoPoint program.now)) }
     ensures none_shown { IfOk result (OnNever (λ multipliers. RulesOut program.now multipliers)) }
+    ensures best_multipliers { IfOk result (OnBest (λ _ multipliers _. IsReadAtBest program.now multipliers)) }
+    ensures never_multipliers { IfOk result (OnNever (λ multipliers. IsReadAtNever program.now multipliers)) }
     ensures each_row { IfOk result (λ solved. length (multipliers_in solved) ≡ program.now.kept) }
     ensures lowest { IfOk result (λ solved. IsLowest (multipliers_in solved)) }
     ensures wide { IfErr result (IfWide (λ _. IsWide program.now)) }
@@ -67,6 +71,7 @@ fn best(
     ensures cost { IfOk result (OnBest (λ value _ _. IsLeastCost program.now value.num value.den)) }
     ensures point { IfOk result (OnBest (λ _ _ point. IsLeastPoint program.now point.whole point.den)) }
     ensures shown { IfOk result (OnBest (λ value multipliers _. BoundsCost program.now multipliers value.num value.den)) }
+    ensures read { IfOk result (OnBest (λ _ multipliers _. IsReadAtBest program.now multipliers)) }
     ensures is_best { IfOk result (OnNever (λ _. ⊥)) }
     ensures each_row { IfOk result (λ solved. length (multipliers_in solved) ≡ program.now.kept) }
     ensures lowest { IfOk result (λ solved. IsLowest (multipliers_in solved)) }
@@ -92,6 +97,7 @@ fn never(alloc: Global, program: &Program, form: &Form, row: usize) -> Result<So
     ensures is_never { IfOk result (OnBest (λ _ _ _. ⊥)) }
     ensures point { IfOk result (OnNever (λ _. HasNoPoint program.now)) }
     ensures shown { IfOk result (OnNever (λ multipliers. RulesOut program.now multipliers)) }
+    ensures read { IfOk result (OnNever (λ multipliers. IsReadAtNever program.now multipliers)) }
     ensures each_row { IfOk result (λ solved. length (multipliers_in solved) ≡ program.now.kept) }
     ensures lowest { IfOk result (λ solved. IsLowest (multipliers_in solved)) }
     ensures memory { IfErr result (IfWide (λ _. ⊥)) }

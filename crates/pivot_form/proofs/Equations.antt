@@ -11,13 +11,14 @@ use Rattle.std.proofs.lemmas.Bool.{cases_lt}
 use Rattle.std.proofs.lemmas.Bool.Decides.{nat_tests}
 use Rattle.std.proofs.lemmas.List.{length-map, ext_get_or}
 use Rattle.std.proofs.lemmas.List.Elements.{All-cons}
-use Rattle.std.proofs.lemmas.Nat.Gcd.{dvd-zero, mod-eq-zero_of_dvd}
+use Rattle.std.proofs.lemmas.Nat.Gcd.{dvd-zero, mod-eq-zero_of_dvd, le_of_dvd}
 use Rattle.std.proofs.Math.ListN.{get_or-map}
 use Rattle.std.proofs.Math.Nat.{dvd-mul_right, dvd_of_mul-dvd-mul_right}
-use Rattle.exact_num.specs.Divisors.{row_gcd, primitive, IsPrimitive}
-use Rattle.exact_num.proofs.Divisors.{fold_divides, fold_greatest, exact}
+use Rattle.std.specs.Int.{IsGcd}
+use Rattle.exact_num.specs.Divisors.{gcd_of, row_gcd, primitive, IsPrimitive}
+use Rattle.exact_num.proofs.Divisors.{fold_divides, fold_greatest, exact, zero_map, zero_fold, primitive_times, primitive_lowest, gauss, IsGcd-gcd_of}
 use Rattle.exact_num.proofs.Bounds.{small_step}
-use Rattle.exact_num.proofs.Ring.{leaf, times, same}
+use Rattle.exact_num.proofs.Ring.{leaf, times, minus, same}
 use Rattle.row_program.specs.Forms.{combination, eliminated, turned, map_from, first_large, first_large_of}
 use Rattle.pivot_form.specs.Invariant.{row_lists}
 use Rattle.pivot_form.proofs.Sums.{cancel}
@@ -174,6 +175,36 @@ scaled_back p (x ∷ row) h =
 scaled_primitive : (p : ℕ) (row : List ℤ) → 0 < p → IsPrimitive row → primitive (map (λ x. pos p *ℤ x) row) ≡ row
 scaled_primitive p row h lowest = ap (λ (g : ℕ). map (λ x. int_div x (pos g)) (map (λ x. pos p *ℤ x) row)) (scaled_gcd p row h lowest) ∙ scaled_back p row h
 
+-- ---- a row times a positive number is reduced to the same
+zero_scaled : (p : ℕ) → pos p *ℤ pos 0 ≡ pos 0
+zero_scaled p = omega (arith, ints)
+
+scaled_twice : (p g : ℕ) (row : List ℤ) → map (λ x. pos p *ℤ x) (map (λ x. x *ℤ pos g) row) ≡ map (λ x. pos (p * g) *ℤ x) row
+scaled_twice p g [] = refl
+scaled_twice p g (x ∷ row) =
+    let P = leaf (pos p) in let G = leaf (pos g) in let X = leaf x in
+    let first : pos p *ℤ (x *ℤ pos g) ≡ pos (p * g) *ℤ x = same (times P (times X G)) (times (times P G) X) (omega arith) in
+    let rest : map (λ y. pos p *ℤ y) (map (λ y. y *ℤ pos g) row) ≡ map (λ y. pos (p * g) *ℤ y) row = scaled_twice p g row in
+    cc
+
+product_positive : (p g : ℕ) → 0 < p → 0 < g → 0 < p * g
+product_positive zero g h i = absurd (omega (arith, h))
+product_positive (suc p) zero h i = absurd (omega (arith, i))
+product_positive (suc p) (suc g) h i = omega arith
+
+pub primitive_scaled : (p : ℕ) (row : List ℤ) → 0 < p → primitive (map (λ x. pos p *ℤ x) row) ≡ primitive row
+primitive_scaled p row h = ⊎_elim none some (cases_lt 0 (row_gcd row))
+  where
+    some : row_gcd row ≤ 0 → primitive (map (λ x. pos p *ℤ x) row) ≡ primitive row
+    some z = ap primitive (zero_map (λ x. pos p *ℤ x) row (zero_scaled p) (zero_fold 0 row (omega (arith, z))).1)
+
+    none : 0 < row_gcd row → primitive (map (λ x. pos p *ℤ x) row) ≡ primitive row
+    none above =
+        let g = row_gcd row in
+        ap (λ (r : List ℤ). primitive (map (λ x. pos p *ℤ x) r)) (sym (primitive_times row))
+        ∙ ap primitive (scaled_twice p g (primitive row))
+        ∙ scaled_primitive (p * g) (primitive row) (product_positive p g h above) (primitive_lowest row above)
+
 positive_is : (p : ℤ) → pos 0 <ℤ p → p ≡ pos (unsigned_abs p)
 positive_is p h = omega (arith, ints, h)
 
@@ -183,6 +214,41 @@ eliminated_kept column row lead same_length above zero_there lowest =
     ∙ ap primitive (scaled_zero (get_or lead column (pos 0)) row lead same_length)
     ∙ ap (λ (p : ℤ). primitive (map (λ x. p *ℤ x) row)) (positive_is (get_or lead column (pos 0)) above)
     ∙ scaled_primitive (unsigned_abs (get_or lead column (pos 0))) row (omega (arith, ints, above)) lowest
+
+-- the same multiple of the lead, as a fraction over another denominator: d / n is q / p
+scaled_combination : (p q n d : ℤ) (row lead : List ℤ) → n *ℤ p ≡ q *ℤ d → map (λ x. d *ℤ x) (combination p row q lead) ≡ map (λ x. p *ℤ x) (combination d row n lead)
+scaled_combination p q n d [] lead e = refl
+scaled_combination p q n d (x ∷ row) [] e = refl
+scaled_combination p q n d (x ∷ row) (y ∷ lead) e =
+    let P = leaf p in let Q = leaf q in let N = leaf n in let D = leaf d in let X = leaf x in let Y = leaf y in
+    let left : d *ℤ (p *ℤ x -ℤ q *ℤ y) ≡ (p *ℤ d) *ℤ x -ℤ (q *ℤ d) *ℤ y = same (times D (minus (times P X) (times Q Y))) (minus (times (times P D) X) (times (times Q D) Y)) (omega arith) in
+    let right : p *ℤ (d *ℤ x -ℤ n *ℤ y) ≡ (p *ℤ d) *ℤ x -ℤ (n *ℤ p) *ℤ y = same (times P (minus (times D X) (times N Y))) (minus (times (times P D) X) (times (times N P) Y)) (omega arith) in
+    let first : d *ℤ (p *ℤ x -ℤ q *ℤ y) ≡ p *ℤ (d *ℤ x -ℤ n *ℤ y) = left ∙ ap (λ (z : ℤ). (p *ℤ d) *ℤ x -ℤ z *ℤ y) (sym e) ∙ sym right in
+    let rest : map (λ z. d *ℤ z) (combination p row q lead) ≡ map (λ z. p *ℤ z) (combination d row n lead) = scaled_combination p q n d row lead e in
+    cc
+
+primitive_positive : (p : ℤ) (row : List ℤ) → pos 0 <ℤ p → primitive (map (λ x. p *ℤ x) row) ≡ primitive row
+primitive_positive p row h = ap (λ (m : ℤ). primitive (map (λ x. m *ℤ x) row)) (positive_is p h) ∙ primitive_scaled (unsigned_abs p) row (omega (arith, ints, h))
+
+pub primitive_factor : (p q n d : ℤ) (row lead : List ℤ) → pos 0 <ℤ p → pos 0 <ℤ d → n *ℤ p ≡ q *ℤ d → primitive (combination d row n lead) ≡ primitive (combination p row q lead)
+primitive_factor p q n d row lead h i e =
+    sym (primitive_positive p (combination d row n lead) h)
+    ∙ ap primitive (sym (scaled_combination p q n d row lead e))
+    ∙ primitive_positive d (combination p row q lead) i
+
+-- the numerator in lowest terms is no larger
+pub factor_small : (p q n d : ℤ) (bound : ℕ) → gcd_of (unsigned_abs n) (unsigned_abs d) ≡ 1 → n *ℤ p ≡ q *ℤ d → pos 0 <ℤ p → unsigned_abs q < bound → unsigned_abs n < bound
+factor_small p q n d bound one e above small =
+    let sizes : unsigned_abs n * unsigned_abs p ≡ unsigned_abs q * unsigned_abs d = sym (unsigned_abs-mul n p) ∙ ap unsigned_abs e ∙ unsigned_abs-mul q d in
+    let is : IsGcd (unsigned_abs n) (unsigned_abs d) 1 = subst (λ (g : ℕ). IsGcd (unsigned_abs n) (unsigned_abs d) g) one (IsGcd-gcd_of (unsigned_abs n) (unsigned_abs d)) in
+    let divides : unsigned_abs n ∣ unsigned_abs q = gauss (unsigned_abs n) (unsigned_abs d) (unsigned_abs q) is (subst (λ (m : ℕ). unsigned_abs n ∣ m) sizes (dvd-mul_right (unsigned_abs n) (unsigned_abs p))) in
+    bounded (unsigned_abs n) (unsigned_abs q) (unsigned_abs p) (unsigned_abs d) sizes divides (omega (arith, ints, above)) small
+  where
+    bounded : (a b m k : ℕ) → a * m ≡ b * k → a ∣ b → 0 < m → b < bound → a < bound
+    bounded zero b m k s h i l = omega (arith, l)
+    bounded (suc a) zero zero k s h i l = absurd (omega (arith, i))
+    bounded (suc a) zero (suc m) k s h i l = absurd (omega (arith, s))
+    bounded (suc a) (suc b) m k s h i l = let no_more : suc a ≤ suc b = le_of_dvd (omega arith) h in omega (arith, no_more, l)
 
 -- ---- large entries
 pub first_large_here : (x : ℤ) (row : List ℤ) → 2 ^ 63 ≤ unsigned_abs x → first_large (x ∷ row) ≡ Some (unsigned_abs x)

@@ -7,7 +7,7 @@ ghost use Rattle.row_program.specs.Forms.{combination, eliminated, first_large, 
 ghost use Rattle.pivot_form.specs.Invariant.{IsEquation};
 
 use crate::Wide;
-use exact_num::{cross, reduce_row};
+use exact_num::{Ratio, cross, reduce_row};
 
 /// Writes p times the row less q times the lead.
 fn combine(out: &mut [i128], p: i64, row: &[i64], q: i64, lead: &[i64])
@@ -48,6 +48,22 @@ fn store(row: &mut [i64], wide: &[i128])
     }
 }
 
+/// Writes the row, cleared in the column by the lead and divided by its greatest common divisor. The fraction of the lead that
+/// is taken away is brought to lowest terms first, which makes the products smaller.
+fn clear(out: &mut [i128], row: &[i64], lead: &[i64], column: usize)
+    requires same_row { length row.now ≡ length out.old }
+    requires same_lead { length lead.now ≡ length out.old }
+    requires within { column < length row.now }
+    requires small_row { All (λ x. unsigned_abs x < 2 ^ 63) row.now }
+    requires small_lead { All (λ x. unsigned_abs x < 2 ^ 63) lead.now }
+    requires positive { pos 0 <ℤ slice_index_or lead.now column (pos 0) }
+    ensures { out.new ≡ eliminated column row.now lead.now }
+{
+    let factor = Ratio::new(row[column], lead[column]);
+    combine(out, factor.den, row, factor.num, lead);
+    reduce_row(out);
+}
+
 /// Clears the row in the column by the lead.
 fn eliminate(row: &mut [i64], lead: &[i64], column: usize, scratch: &mut [i128]) -> Result<(), Wide>
     requires same_lead { length lead.now ≡ length row.old }
@@ -55,11 +71,11 @@ fn eliminate(row: &mut [i64], lead: &[i64], column: usize, scratch: &mut [i128])
     requires within { column < length row.old }
     requires small_row { All (λ x. unsigned_abs x < 2 ^ 63) row.old }
     requires small_lead { All (λ x. unsigned_abs x < 2 ^ 63) lead.now }
+    requires positive { pos 0 <ℤ slice_index_or lead.now column (pos 0) }
     ensures value { MatchResult result (λ _. (row.new ≡ eliminated column row.old lead.now) × (first_large (eliminated column row.old lead.now) ≡ None))
         (λ e. first_large (eliminated column row.old lead.now) ≡ Some e.size) }
 {
-    combine(scratch, lead[column], row, row[column], lead);
-    reduce_row(scratch);
+    clear(scratch, row, lead, column);
     match find_large(scratch) {
         Some(size) => Err(Wide { size }),
         None => {

@@ -7,7 +7,7 @@ use Rattle.std.specs.Prelude.{ℤ, pos, ◌*ℤ◌, unsigned_abs}
 use Rattle.std.specs.Int.RustNames.{int_div, FitsSigned}
 use Rattle.std.specs.List.{fold}
 use mir.Syntax.{w128}
-use Rattle.exact_num.specs.Divisors.{row_gcd, gcd_of, gcd_with, IsPrimitive}
+use Rattle.exact_num.specs.Divisors.{row_gcd, gcd_with, IsPrimitive}
 use Rattle.exact_num.proofs.Maps.{map_front, map_front_more, map_front_all, get_or-map_front, length-map_front}
 use Rattle.exact_num.proofs.Divisors.{primitive_zero, primitive_one, one_stays, primitive_times, primitive_lowest}
 use Rattle.exact_num.proofs.reduce_row.Goals as goal
@@ -66,9 +66,9 @@ returns-then-divisor-eq1-clause-value c =
     let row = c.args.row.now in
     let x : ℤ = get_or row i (pos 0) in
     let fits : FitsSigned w128 x = search rules in
-    let size : c.unsigned_abs.result ≡ unsigned_abs x = simp to_z-of_z at c.unsigned_abs.ensures.value in
     let more = fold_more gcd_with 0 row i (pos 0) (omega arith) in
-    let front : fold gcd_with 0 (take (i + 1) row) ≡ c.gcd-divisor.result = more ∙ ap (λ (g : ℕ). gcd_with g x) (sym c.measured.invariant) ∙ ap (gcd_of c.measured.divisor) (sym size) ∙ sym c.gcd-divisor.ensures.value in
+    let value : c.with_entry-divisor.result ≡ gcd_with c.measured.divisor x = simp to_z-of_z at c.with_entry-divisor.ensures in
+    let front : fold gcd_with 0 (take (i + 1) row) ≡ c.with_entry-divisor.result = more ∙ ap (λ (g : ℕ). gcd_with g x) (sym c.measured.invariant) ∙ sym value in
     primitive_one row (one_stays row (i + 1) (front ∙ c.if-divisor-eq1.true))
 
 pub returns-then-divisor-eq1-clause-multiple : goal.returns-then-divisor-eq1-clause-multiple

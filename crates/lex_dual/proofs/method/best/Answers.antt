@@ -4,10 +4,10 @@ use Rattle.std.proofs.lemmas.Int.{ints, to_z-of_z}
 use Rattle.std.specs.Int.RustNames.{FitsSigned}
 use mir.Syntax.{w64}
 use mir.Val.{to_z, of_z}
-use Rattle.row_program.specs.Forms.{entry, right_side}
+use Rattle.row_program.specs.Forms.{Table, entry, right_side}
 use Rattle.std.proofs.lemmas.Result.{err_from_is_err_and}
 use Rattle.row_program.specs.Points.{IsLeastPoint}
-use Rattle.row_program.specs.Method.{IsWide}
+use Rattle.row_program.specs.Method.{IsBest, IsWide}
 use Rattle.dual_theory.proofs.Wide.{wide_size}
 use Rattle.dual_theory.specs.Ends.{IsWideSize, large_in_point, point_whole}
 use Rattle.dual_theory.specs.Multipliers.{IsLowest, slack_sizes, multipliers_of, BoundsCost}
@@ -97,3 +97,9 @@ returns-clause-lowest c = subst IsLowest (sym c.in_ok-multipliers.ensures) (lowe
 
 pub returns-clause-narrow : goal.returns-clause-narrow
 returns-clause-narrow c = not_wide_at_best c.args.program.now c.args.form.now c.requires.reached c.requires.best c.in_ok-point.ensures.none
+
+pub returns-clause-read : goal.returns-clause-read
+returns-clause-read c =
+    let p = c.args.program.now in
+    let reached = c.requires.reached in
+    (reached.pivots, subst IsBest reached.is c.requires.best, c.in_ok-multipliers.ensures ∙ ap (λ (t : Table). multipliers_of p t 0) reached.is)

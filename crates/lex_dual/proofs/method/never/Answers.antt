@@ -1,5 +1,7 @@
-use Rattle.std.proofs.Common.{ap, sym, ◌∙◌, subst, length}
-use Rattle.dual_theory.specs.Multipliers.{IsLowest, slack_sizes, RulesOut}
+use Rattle.std.proofs.Common.{◌≡◌, ap, sym, ◌∙◌, subst, length, Some, None}
+use Rattle.row_program.specs.Forms.{Table}
+use Rattle.row_program.specs.Method.{leaving, entering}
+use Rattle.dual_theory.specs.Multipliers.{IsLowest, slack_sizes, multipliers_of, RulesOut}
 use Rattle.dual_theory.proofs.Shown.{never_point, never_shown, lowest_is}
 use Rattle.lex_dual.proofs.Reaching.{reached_run, reached_form, reached_variables, leaves_within, not_wide_at_never, each_multiplier}
 use Rattle.lex_dual.proofs.method.never.Goals as goal
@@ -27,3 +29,10 @@ returns-clause-lowest c = subst IsLowest (sym c.in_ok-multipliers.ensures) (lowe
 
 pub returns-clause-narrow : goal.returns-clause-narrow
 returns-clause-narrow c = not_wide_at_never c.args.program.now c.args.form.now c.requires.reached c.args.row c.requires.leaving c.requires.none
+
+pub returns-clause-read : goal.returns-clause-read
+returns-clause-read c =
+    let p = c.args.program.now in
+    let row = c.args.row in
+    let reached = c.requires.reached in
+    (reached.pivots, row, subst (λ (t : Table). leaving t ≡ Some row) reached.is c.requires.leaving, subst (λ (t : Table). entering t row ≡ None) reached.is c.requires.none, c.in_ok-multipliers.ensures ∙ ap (λ (t : Table). multipliers_of p t row) reached.is)
