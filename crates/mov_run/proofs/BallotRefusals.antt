@@ -104,7 +104,7 @@ faulty_file old new words s file bytes fault (inr (inr good)) tells quiet short 
 faulty_file old new words s file bytes fault (inr (inl stopped)) tells quiet short read = by stopped.0 stopped.1 stopped.2 stopped.3
   where
     by : (t : Stop) → s ≡ status_of t → Stopped old new t → HasNoContest (source_of old new) file t → EndsWith old new s Ballots (line_of (stop.Ballots fault))
-    by t is left (inl unread) = absurd (elim unread.1 [ inl rose ↦ quiet rose | inr lacks ↦ not_both old.told file bytes tells lacks ])
+    by t is left (inl unread) = absurd (elim unread.1.why [ inl rose ↦ quiet rose | inr lacks ↦ not_both old.told file bytes tells lacks ])
     by t is left (inr (inl long)) = absurd (let lt = long.1.told bytes tells in omega arith)
     by t is left (inr (inr faulty)) =
         let same : faulty.2.bytes ≡ bytes = faulty.2.file.told bytes tells in
@@ -119,7 +119,7 @@ long_file old new words s file bytes (inr (inr good)) tells quiet more =
 long_file old new words s file bytes (inr (inl stopped)) tells quiet more = by stopped.0 stopped.1 stopped.2 stopped.3
   where
     by : (t : Stop) → s ≡ status_of t → Stopped old new t → HasNoContest (source_of old new) file t → EndsWith old new s Ballots (line_of stop.Long)
-    by t is left (inl unread) = absurd (elim unread.1 [ inl rose ↦ quiet rose | inr lacks ↦ not_both old.told file bytes tells lacks ])
+    by t is left (inl unread) = absurd (elim unread.1.why [ inl rose ↦ quiet rose | inr lacks ↦ not_both old.told file bytes tells lacks ])
     by t is left (inr (inl long)) = ends_with old new s t stop.Long Ballots is left long.0 refl
     by t is left (inr (inr faulty)) = absurd (let same : faulty.2.bytes ≡ bytes = faulty.2.file.told bytes tells in let le : length bytes ≤ ballot_limit = rw (← same) faulty.2.file.within in omega arith)
 
@@ -141,7 +141,7 @@ accepted_end old new words s quiet (inr (inr (inl cut))) = (λ e. absurd (cc), �
 accepted_end old new words s quiet (inr (inr (inr (inl faulty)))) = (λ e. absurd (cc), λ e. absurd (cc))
 accepted_end old new words s quiet (inr (inr (inr (inr unread)))) =
     let at = unread.1 in
-    (λ e. absurd (let is = unread.0 in cc), λ e. (at.0, at.1, at.2, elim at.3 [ inl rose ↦ absurd (quiet rose) | inr lacks ↦ lacks ]))
+    (λ e. absurd (let is = unread.0 in cc), λ e. (at.0, at.1, at.2, elim at.3.why [ inl rose ↦ absurd (quiet rose) | inr lacks ↦ lacks ]))
 
 accepted_file : (old new : Outside) (words : List (List ℕ)) (s : Status) (file : List ℕ) (k : NamedPoll) → AtFile old new words s file → IsToldContest old file k → (Rose old.faults new.faults → ⊥)
     → (s ≡ Ballots → ⊥) × (s ≡ Read → LacksCert old words)

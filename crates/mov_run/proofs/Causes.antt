@@ -17,6 +17,7 @@ use Rattle.mov_run.specs.declared.runs.Status.TheVariants.{Done, Refused, Words,
 use Rattle.mov_run.specs.declared.stops.Stop.{Stop}
 use Rattle.mov_run.specs.declared.stops.Stop.TheVariants as stop
 use Rattle.mov_run.proofs.Delivered.{Goes, delivered_err, delivered_ok}
+use Rattle.mov_run.proofs.Accepted.{valid_cause}
 use Rattle.mov_run.proofs.Shapes.{AtCert, AtRefusal, JobShape, not_err, not_none, one_fault, shape}
 
 -- ---- at each status
@@ -33,6 +34,8 @@ at_words old new words f m left = record {
   memory = λ e. absurd (cc);
   silent = λ e. left.silent;
   quiet = λ e. absurd e;
+  done = λ e. absurd (cc);
+  valid = λ e. absurd (cc);
   refused = λ e. absurd (cc);
   no_bounds = λ e. cc;
 }
@@ -49,6 +52,8 @@ at_memory old new words known left = record {
   memory = λ e. left.line;
   silent = λ e. left.silent;
   quiet = λ e. absurd e;
+  done = λ e. absurd (cc);
+  valid = λ e. absurd (cc);
   refused = λ e. absurd (cc);
   no_bounds = λ e. cc;
 }
@@ -65,6 +70,8 @@ at_read old new words job m silent why = record {
   memory = λ e. absurd (cc);
   silent = λ e. silent;
   quiet = λ e. absurd e;
+  done = λ e. absurd (cc);
+  valid = λ e. absurd (cc);
   refused = λ e. absurd (cc);
   no_bounds = λ e. cc;
 }
@@ -84,6 +91,8 @@ at_ballots old new words job file m named silent why = record {
   memory = λ e. absurd (cc);
   silent = λ e. silent;
   quiet = λ e. absurd e;
+  done = λ e. absurd (cc);
+  valid = λ e. absurd (cc);
   refused = λ e. absurd (cc);
   no_bounds = λ e. cc;
 }
@@ -100,12 +109,15 @@ at_certificate old new words job m silent why = record {
   memory = λ e. absurd (cc);
   silent = λ e. silent;
   quiet = λ e. absurd e;
+  done = λ e. absurd (cc);
+  valid = λ e. absurd (cc);
   refused = λ e. absurd (cc);
   no_bounds = λ e. cc;
 }
 
-at_done : (old new : Outside) (words : List (List ℕ)) (job : Job) (text : List ℕ) → meaning words ≡ Ok job → Wrote old new text → Causes old new words Done
-at_done old new words job text m wrote = record {
+at_done : (old new : Outside) (words : List (List ℕ)) (job : Job) (text : List ℕ) → meaning words ≡ Ok job → Allowed (source_of old new) words (Ok (record { ends = Done; text = text }))
+    → Wrote old new text → Causes old new words Done
+at_done old new words job text m allowed wrote = record {
   words_only = λ e. absurd (cc);
   words_come = λ f n. absurd (not_err (meaning words) job f m n);
   no_command = λ e. absurd (not_none (meaning words) job m e);
@@ -116,6 +128,8 @@ at_done old new words job text m wrote = record {
   memory = λ e. absurd (cc);
   silent = λ e. absurd e;
   quiet = λ e. (wrote.quiet, wrote.no_fault.0, wrote.no_fault.1);
+  done = λ e. (text, allowed, wrote.whole);
+  valid = λ e file name check. valid_cause old new words file name text check allowed wrote.whole;
   refused = λ e. absurd (cc);
   no_bounds = λ e. cc;
 }
@@ -132,6 +146,8 @@ at_refused old new words job text m wrote why = record {
   memory = λ e. absurd (cc);
   silent = λ e. absurd e;
   quiet = λ e. (wrote.quiet, wrote.no_fault.0, wrote.no_fault.1);
+  done = λ e. absurd (cc);
+  valid = λ e. absurd (cc);
   refused = λ e. why;
   no_bounds = λ e. cc;
 }
@@ -148,6 +164,8 @@ at_write old new words job o m allowed cut = record {
   memory = λ e. absurd (cc);
   silent = λ e. absurd e;
   quiet = λ e. absurd e;
+  done = λ e. absurd (cc);
+  valid = λ e. absurd (cc);
   refused = λ e. absurd (cc);
   no_bounds = λ e. cc;
 }
@@ -186,7 +204,8 @@ allowed_of old new words a o is allowed = subst (λ v. Allowed (source_of old ne
 
 text_made : (old new : Outside) (words : List (List ℕ)) (s : Status) (a : Answer) (job : Job) (text : List ℕ) → meaning words ≡ Ok job → a ≡ Ok (record { ends = Done; text = text })
     → Allowed (source_of old new) words a → Goes old new s (record { ends = Done; text = text }) → Causes old new words s
-text_made old new words s a job text m is allowed (inl w) = rw w.0 (at_done old new words job text m w.1)
+text_made old new words s a job text m is allowed (inl w) =
+    rw w.0 (at_done old new words job text m (allowed_of old new words a (record { ends = Done; text = text }) is allowed) w.1)
 text_made old new words s a job text m is allowed (inr c) =
     rw c.0 (at_write old new words job (record { ends = Done; text = text }) m (allowed_of old new words a (record { ends = Done; text = text }) is allowed) c.1)
 

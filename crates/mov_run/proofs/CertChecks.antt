@@ -114,7 +114,7 @@ faulty_cert old new s name bytes k fault (inr (inr good)) quiet tells short read
 faulty_cert old new s name bytes k fault (inr (inl stopped)) quiet tells short read = by stopped.0 stopped.1 stopped.2 stopped.3
   where
     by : (t : Stop) → s ≡ status_of t → Stopped old new t → HasNoCert (source_of old new) name t → EndsWith old new s Certificate (line_of (stop.Certificate fault))
-    by t is left (inl unread) = absurd (elim unread.1 [ inl rose ↦ quiet rose | inr lacks ↦ not_both old.told name bytes tells lacks ])
+    by t is left (inl unread) = absurd (elim unread.1.why [ inl rose ↦ quiet rose | inr lacks ↦ not_both old.told name bytes tells lacks ])
     by t is left (inr (inl long)) = absurd (let lt = long.1.told bytes tells in omega arith)
     by t is left (inr (inr faulty)) =
         let same : faulty.2.bytes ≡ bytes = faulty.2.file.told bytes tells in
@@ -129,7 +129,7 @@ long_cert old new s name bytes k (inr (inr good)) quiet tells more =
 long_cert old new s name bytes k (inr (inl stopped)) quiet tells more = by stopped.0 stopped.1 stopped.2 stopped.3
   where
     by : (t : Stop) → s ≡ status_of t → Stopped old new t → HasNoCert (source_of old new) name t → EndsWith old new s Certificate (line_of stop.LongCertificate)
-    by t is left (inl unread) = absurd (elim unread.1 [ inl rose ↦ quiet rose | inr lacks ↦ not_both old.told name bytes tells lacks ])
+    by t is left (inl unread) = absurd (elim unread.1.why [ inl rose ↦ quiet rose | inr lacks ↦ not_both old.told name bytes tells lacks ])
     by t is left (inr (inl long)) = ends_with old new s t stop.LongCertificate Certificate is left long.0 refl
     by t is left (inr (inr faulty)) = absurd (let same : faulty.2.bytes ≡ bytes = faulty.2.file.told bytes tells in let le : length bytes ≤ cert_limit = rw (← same) faulty.2.file.within in omega arith)
 

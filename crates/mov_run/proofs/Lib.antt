@@ -12,5 +12,6 @@ pub mod Delivered
 pub mod Shapes
 pub mod BallotRefusals
 pub mod CertChecks
+pub mod Accepted
 pub mod Causes
 pub mod Promises

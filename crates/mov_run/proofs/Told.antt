@@ -28,7 +28,7 @@ ok_or_err r k f a b = cc
 
 -- a told contest comes of its file
 pub no_stop : (old new : Outside) (file : List ℕ) (k : NamedPoll) (t : Stop) → IsToldContest old file k → (Rose old.faults new.faults → ⊥) → HasNoContest (source_of old new) file t → ⊥
-no_stop old new file k t told quiet (inl unread) = elim unread.1 [ inl rose ↦ quiet rose | inr lacks ↦ not_both old.told file told.bytes told.told lacks ]
+no_stop old new file k t told quiet (inl unread) = elim unread.1.why [ inl rose ↦ quiet rose | inr lacks ↦ not_both old.told file told.bytes told.told lacks ]
 no_stop old new file k t told quiet (inr (inl long)) = let lt = long.1.told told.bytes told.told in let le = told.short in omega arith
 no_stop old new file k t told quiet (inr (inr faulty)) =
     let same : faulty.2.bytes ≡ told.bytes = faulty.2.file.told told.bytes told.told in
@@ -48,7 +48,7 @@ contest_answer old new file k next a told quiet (inr good) = subst (λ other. ne
 
 -- a told certificate comes of its file
 pub no_cert_stop : (old new : Outside) (name : List ℕ) (cert : Cert) (t : Stop) → IsToldCert old name cert → (Rose old.faults new.faults → ⊥) → HasNoCert (source_of old new) name t → ⊥
-no_cert_stop old new name cert t told quiet (inl unread) = elim unread.1 [ inl rose ↦ quiet rose | inr lacks ↦ not_both old.told name told.bytes told.told lacks ]
+no_cert_stop old new name cert t told quiet (inl unread) = elim unread.1.why [ inl rose ↦ quiet rose | inr lacks ↦ not_both old.told name told.bytes told.told lacks ]
 no_cert_stop old new name cert t told quiet (inr (inl long)) = let lt = long.1.told told.bytes told.told in let le = told.short in omega arith
 no_cert_stop old new name cert t told quiet (inr (inr faulty)) =
     let same : faulty.2.bytes ≡ told.bytes = faulty.2.file.told told.bytes told.told in

@@ -1,5 +1,5 @@
 -- Which answers a job allows.
-use Rattle.std.specs.Prelude.{◌≡◌, ◌⊎◌, ◌↔◌, ◌<◌, ◌≤◌, ℕ, List, length, Option, Result, Ok, Err}
+use Rattle.std.specs.Prelude.{◌≡◌, ◌⊎◌, ◌↔◌, ◌<◌, ◌≤◌, ℕ, List, length, IfSome, Option, Result, Ok, Err}
 use Rattle.mov_edge.specs.Outside.{Named, Place, Tells, Lacks, Rose, TookMore}
 use Rattle.ballot_csv.specs.BallotFile.{NamedPoll, read_of}
 use Rattle.ballot_csv.specs.PlainForm.{plain_form}
@@ -47,9 +47,10 @@ pub record Source : Type 0 where
 abbrev pub Answer : Type 0
 Answer = Result Output Stop
 
--- the file can't be read: a fault came, or it is known to be absent
-abbrev pub IsUnread : Source → List ℕ → Type 0
-IsUnread s name = Rose s.before s.now ⊎ Lacks s.told name
+-- the file can't be read: a fault came, or it is known to be absent; and the reading stopped at no other file
+pub record IsUnread (s : Source) (name : List ℕ) : Type 0 where
+  pub why : Rose s.before s.now ⊎ Lacks s.told name
+  pub at : IfSome s.at (λ p. p.name ≡ name)
 
 -- the file stands for these bytes: those that are told, if any are
 pub record IsFile (s : Source) (name : List ℕ) (limit : ℕ) (bytes : List ℕ) : Type 0 where

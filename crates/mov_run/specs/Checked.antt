@@ -85,11 +85,17 @@ CertCause old new words = (name : List ℕ) × (k : NamedPoll) × WentOn old new
     × ((IsLong (source_of old new) name cert_limit × SaysLine old new (line_of stop.LongCertificate))
     ⊎ ((fault : CertFault) × IsFaultyCert (source_of old new) name fault × SaysLine old new (line_of (stop.Certificate fault))))
 
--- why a run ends with a file that can't be read: that file is named. It is the ballot file, or the certificate file of a check whose
--- ballot file is accepted
+-- why a run ends with a file that can't be read: that file is named, and the reading stopped at no other. It is the ballot file, or
+-- the certificate file of a check whose ballot file is accepted
 abbrev pub ReadCause : Outside → Outside → List (List ℕ) → Type 0
 ReadCause old new words = (name : List ℕ) × IsUnread (source_of old new) name × SaysLine old new (line_of (stop.Read name))
     × (BallotFile (meaning words) name ⊎ ((k : NamedPoll) × WentOn old new words name k))
+
+-- why a check ends well: it wrote whole that the certificate is valid, and it is, and its claim is true
+abbrev pub ValidCause : Outside → Outside → List (List ℕ) → List ℕ → Type 0
+ValidCause old new words name = (k : NamedPoll) × (cert : Cert)
+    × WentOn old new words name k × IsCertFile (source_of old new) name cert × (cert.rule ≡ Plurality) × IsValidCert k.poll cert × ClaimIsTrue k.poll cert
+    × Took old.out.taken new.out.taken (valid_text cert)
 
 -- why a run ends with a refusal: a check wrote it whole, and the certificate isn't valid for this reason
 abbrev pub RefusalCause : Outside → Outside → List (List ℕ) → Type 0

@@ -1,7 +1,7 @@
 -- What a run promises: what it leaves, and what follows from that.
 use Rattle.std.specs.Prelude.{◌≡◌, ◌⊎◌, ◌≤◌, ◌<◌, ℕ, List, codes, length, Ok, Err}
 use Rattle.mov_edge.specs.Loads.{TookFirst}
-use Rattle.mov_edge.specs.Outside.{Tells, Lacks, Rose}
+use Rattle.mov_edge.specs.Outside.{Took, Tells, Lacks, Rose}
 use Rattle.ballot_csv.specs.BallotFile.{NamedPoll, read_of}
 use Rattle.ballot_csv.specs.PlainForm.{plain_form}
 use Rattle.ballot_csv.specs.declared.fault.BallotFault.{BallotFault}
@@ -10,13 +10,13 @@ use Rattle.ballot_form.specs.declared.rule.Rule.TheVariants.{Plurality}
 use Rattle.mov_run.specs.Allowed.{Allowed, IsFaultyFile, IsLong, ballot_limit}
 use Rattle.cert_text.specs.CertText.{CertText}
 use Rattle.margin_solve.specs.Certificates.{IsCertOf}
-use Rattle.mov_run.specs.Checked.{CertCause, ReadCause, RefusalCause, WritesVerdict, LacksCert}
+use Rattle.mov_run.specs.Checked.{CertCause, ReadCause, RefusalCause, ValidCause, WritesVerdict, LacksCert}
 use Rattle.mov_run.specs.Ends.{EndsWith, IsDone, IsToldContest, IsUntroubled}
 use Rattle.mov_run.specs.Ran.{Outside, Ran, SaysLine, line_of, source_of}
 use Rattle.mov_run.specs.Tally.{IsTally}
 use Rattle.mov_run.specs.Words.{BallotFile, IsNoCommand, meaning}
 use Rattle.cert_text.specs.declared.cert.Cert.{Cert}
-use Rattle.mov_run.specs.declared.jobs.Job.TheVariants.{Tally, Margin, Show}
+use Rattle.mov_run.specs.declared.jobs.Job.TheVariants.{Tally, Margin, Check, Show}
 use Rattle.mov_run.specs.declared.jobs.WordFault.{WordFault}
 use Rattle.mov_run.specs.declared.runs.Output.{Output}
 use Rattle.mov_run.specs.declared.runs.Status.{Status}
@@ -83,6 +83,8 @@ pub record Causes (old new : Outside) (words : List (List ℕ)) (s : Status) : T
   pub memory : s ≡ Memory → SaysLine old new (line_of stop.Memory)
   pub silent : IsStop s → new.out ≡ old.out
   pub quiet : IsWritten s → (new.err ≡ old.err) × (new.faults ≡ old.faults) × (new.out.faults ≡ old.out.faults)
+  pub done : s ≡ Done → (text : List ℕ) × Allowed (source_of old new) words (Ok (record { ends = Done; text = text })) × Took old.out.taken new.out.taken text
+  pub valid : s ≡ Done → (file name : List ℕ) → meaning words ≡ Ok (Check file name) → ValidCause old new words name
   pub refused : s ≡ Refused → RefusalCause old new words
   pub no_bounds : s ≡ Bounds → ⊥
 

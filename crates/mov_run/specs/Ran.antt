@@ -7,6 +7,7 @@ use Rattle.ballot_csv.specs.declared.fault.BallotKind.TheVariants as kind
 use Rattle.cert_text.specs.declared.fault.CertKind.{CertKind}
 use Rattle.cert_text.specs.declared.fault.CertKind.TheVariants as cert_kind
 use Rattle.mov_run.specs.Allowed.{Allowed, Answer, Source}
+use Rattle.mov_run.specs.Words.{meaning}
 use Rattle.mov_run.specs.declared.jobs.WordFault.{WordFault}
 use Rattle.mov_run.specs.declared.jobs.WordFault.TheVariants as word
 use Rattle.mov_run.specs.declared.runs.Output.{Output}
@@ -135,6 +136,8 @@ pub record Ran (old new : Outside) (words : List (List ℕ)) (s : Status) : Type
   pub allowed : Allowed (source_of old new) words answer
   pub delivered : Delivers old new answer s
   pub told : new.told ≡ old.told
+  -- where the words are at fault, no file is touched
+  pub untouched : (fault : WordFault) → meaning words ≡ Err fault → (new.at ≡ old.at) × (new.faults ≡ old.faults)
 
 -- a text was sent, or cut short
 abbrev pub Sent : Output → Drain → Drain → Drain → Drain → Status → Type 0

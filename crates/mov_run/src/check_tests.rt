@@ -21,10 +21,21 @@ fn expect_run<R: Abort>(
     let mut files = MemFiles::new(alloc, 8, Vec::new(alloc));
     files.add("F", Vec::from_slice(alloc, ballots)?)?;
     files.add("C", Vec::from_slice(alloc, cert)?)?;
+    expect_over(rt, alloc, words, &mut files, ends)
+}
+
+/// Runs the words over the files, and compares the status and what went out.
+fn expect_over<R: Abort>(
+    rt: &R,
+    alloc: Global,
+    words: &[&str],
+    files: &mut MemFiles,
+    ends: (u8, &[u8], &[u8]),
+) -> Result<(), Fail> {
     let mut output = MemSink::new(alloc, 1000, 1000, Vec::new(alloc))?;
     let mut error = MemSink::new(alloc, 1000, 10, Vec::new(alloc))?;
     let words = words_of(alloc, words)?;
-    let status = run(alloc, words.as_slice(), &mut files, &mut output, &mut error);
+    let status = run(alloc, words.as_slice(), files, &mut output, &mut error);
     let (number, out, err) = ends;
     assert_eq!(rt; output.taken(), out, "of {words:?}");
     assert_eq!(rt; error.taken(), err, "of {words:?}");
@@ -143,6 +154,80 @@ fn the_first_fault_decides(rt: HostRuntime) -> Result<(), Fail> {
     for (words, ballots, cert, number, err) in table {
         let ends = (number, b"".as_slice(), err);
         expect_run(&rt, rt.alloc(), words, ballots, cert, ends)?;
+    }
+    Ok(())
+}
+
+/// The certificate of five against two with another tree: a line so many times, then the line `cut` so many times.
+fn with_tree(alloc: Global, line: &[u8], lines: u32, cuts: u32) -> Result<Vec<u8>, Fail> {
+    let mut text = Vec::from_slice(
+        alloc,
+        b"movcert 1\nrule plurality\nsize 2 7\nreported 0\nmargin 2\ngoal pair 1 0\nput 1 1\nput 2 1\n",
+    )?;
+    for _ in 0..lines {
+        text.extend_from_slice(line)?;
+    }
+    for _ in 0..cuts {
+        text.extend_from_slice(b"cut\n")?;
+    }
+    Ok(text)
+}
+
+#[test]
+fn trees_past_their_limits(rt: HostRuntime) -> Result<(), Fail> {
+    let alloc = rt.alloc();
+    let table: [(&[u8], u32, u32, &[u8]); 2] = [
+        (
+            b"split 1\n",
+            257,
+            1,
+            b"mov: certificate: line 265: too deep\n",
+        ),
+        (
+            b"split 1560\n",
+            100,
+            99_901,
+            b"mov: certificate: line 100009: too many nodes\n",
+        ),
+    ];
+    for (line, lines, cuts, err) in table {
+        let mut files = MemFiles::new(alloc, 16_384, Vec::new(alloc));
+        files.add("F", Vec::from_slice(alloc, FIVE_TWO)?)?;
+        files.add("C", with_tree(alloc, line, lines, cuts)?)?;
+        let ends = (5, b"".as_slice(), err);
+        expect_over(&rt, alloc, &["check", "F", "C"], &mut files, ends)?;
+    }
+    Ok(())
+}
+
+#[test]
+fn a_certificate_of_instant_runoff_cut_short(rt: HostRuntime) -> Result<(), Fail> {
+    expect_run(
+        &rt,
+        rt.alloc(),
+        &["check", "F", "C"],
+        b"ballots,A,B,C\n5,A\n4,B,C\n3,C,A\n",
+        b"movcert 1\nrule irv\nsize 3 12\nreported 0\nmargin 1\ngoal order 0 2 1\nput 1 2\nsplit 2\nsplit 2\ncut 1\nsplit 1\ncut 1 1 0\nsplit 2\nsplit 1\ncut 0 1 0\n",
+        (5, b"", b"mov: certificate: line 16: tree ends\n"),
+    )
+}
+
+/// The ballot file is begun by the first call, and read by the next four, eight bytes at most each.
+#[test]
+fn a_failed_call_names_its_file(rt: HostRuntime) -> Result<(), Fail> {
+    let alloc = rt.alloc();
+    let table: [(u32, &[u8]); 4] = [
+        (1, b"mov: read failed: F\n"),
+        (5, b"mov: read failed: F\n"),
+        (6, b"mov: read failed: C\n"),
+        (7, b"mov: read failed: C\n"),
+    ];
+    for (call, err) in table {
+        let mut files = MemFiles::new(alloc, 8, vec![in alloc; call]?);
+        files.add("F", Vec::from_slice(alloc, FIVE_TWO)?)?;
+        files.add("C", with_tree(alloc, b"cut\n", 1, 0)?)?;
+        let ends = (6, b"".as_slice(), err);
+        expect_over(&rt, alloc, &["check", "F", "C"], &mut files, ends)?;
     }
     Ok(())
 }

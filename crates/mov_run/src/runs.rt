@@ -1,9 +1,11 @@
 // The top call.
-ghost use Rattle.std.specs.Prelude.{◌≡◌, ◌⊎◌, map, string_bytes, IfOk};
+ghost use Rattle.std.specs.Prelude.{◌≡◌, ◌⊎◌, map, string_bytes, IfOk, Err};
 ghost use Rattle.ballot_form.specs.Rules.{IsRule};
 ghost use Rattle.mov_run.specs.Allowed.{Allowed, AnswersOrMemory};
 ghost use Rattle.mov_run.specs.Ran.{Ran, Sent, number_of, status_of};
 ghost use Rattle.mov_run.specs.Promised.{Promised};
+ghost use Rattle.mov_run.specs.Words.{meaning};
+ghost use Rattle.mov_run.specs.declared.jobs.WordFault.{WordFault as AFault};
 
 use crate::checks::check_answer;
 use crate::jobs::{Job, WordFault, parse};
@@ -138,6 +140,7 @@ fn deliver<O: Sink, E: Sink>(output: &Output, out: &mut O, err: &mut E) -> Statu
 /// The answer to the words.
 fn answer<F: Files>(alloc: Global, words: &[String], files: &mut F) -> Result<Output, Stop>
     ensures allowed { Allowed (record { told = F.told files.old; at = F.at files.new; before = F.faults files.old; now = F.faults files.new }) (map string_bytes words.now) result }
+    ensures untouched { (fault : AFault) → meaning (map string_bytes words.now) ≡ Err fault → (F.at files.new ≡ F.at files.old) × (F.faults files.new ≡ F.faults files.old) }
     ensures told { F.told files.new ≡ F.told files.old }
     ensures kept { IfOk result (λ _. F.faults files.new ≡ F.faults files.old) }
 {

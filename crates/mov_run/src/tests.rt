@@ -177,6 +177,41 @@ fn the_second_write_fails(rt: HostRuntime) -> Result<(), Fail> {
     Ok(())
 }
 
+/// Runs the words without any file, where this call of the error sink fails, and compares the status and what it took.
+fn expect_cut<R: Abort>(
+    rt: &R,
+    alloc: Global,
+    words: &[&str],
+    call: u32,
+    number: u8,
+    err: &[u8],
+) -> Result<(), Fail> {
+    let mut files = MemFiles::new(alloc, 8, Vec::new(alloc));
+    let mut output = MemSink::new(alloc, 100, 10, Vec::new(alloc))?;
+    let mut error = MemSink::new(alloc, 100, 10, vec![in alloc; call]?)?;
+    let words = words_of(alloc, words)?;
+    let status = run(alloc, words.as_slice(), &mut files, &mut output, &mut error);
+    assert_eq!(rt; status.number(), number, "of {words:?}");
+    assert!(rt; output.taken().is_empty());
+    assert_eq!(rt; error.taken(), err, "of {words:?}");
+    Ok(())
+}
+
+#[test]
+fn the_status_stays_where_the_line_is_cut(rt: HostRuntime) -> Result<(), Fail> {
+    let show: &[&str] = &["show", "G"];
+    let table: [(&[&str], u32, u8, &[u8]); 4] = [
+        (&[], 1, 3, b""),
+        (&[], 2, 3, b"mov: words"),
+        (show, 1, 6, b""),
+        (show, 3, 6, b"mov: read failed: "),
+    ];
+    for (words, call, number, err) in table {
+        expect_cut(&rt, rt.alloc(), words, call, number, err)?;
+    }
+    Ok(())
+}
+
 #[test]
 fn the_third_call_of_the_files_fails(rt: HostRuntime) -> Result<(), Fail> {
     let alloc = rt.alloc();
