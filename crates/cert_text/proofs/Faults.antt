@@ -1,7 +1,6 @@
 -- Reading itself never runs out of memory: each fault that it gives is one of the text.
-use Rattle.std.proofs.Common.{◌≡◌, ℕ, zero, suc, ◌+◌, Bool, true, false, cond, eqb, leb, List, [], ◌∷◌, length, Option, Some, None, Result, Ok, Err, ap, ◌∙◌, sym, subst}
+use Rattle.std.proofs.Common.{◌≡◌, ℕ, zero, suc, ◌+◌, Bool, true, false, cond, eqb, leb, List, ◌∷◌, length, Option, Some, None, Result, Ok, Err, sym, subst}
 use Rattle.std.specs.List.{position}
-use Rattle.alteration_model.specs.declared.puts.Put.{Put}
 use Rattle.bound_tree.specs.Plain.{Plain, Split, Branch, kids_of}
 use Rattle.bound_tree.specs.Lines.{Line, SplitInto, BranchBy, CutWith}
 use Rattle.ballot_form.specs.declared.rule.Rule.{Rule}
