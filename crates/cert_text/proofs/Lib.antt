@@ -1,7 +1,7 @@
 mod Growing
 mod Numbers
 mod Choices
-mod Lines
+mod TreeForms
 mod Cutting
 mod Forms
 mod Shapes
@@ -10,6 +10,8 @@ mod HeadForms
 mod OutcomeForms
 mod TurnForms
 mod Whole
+mod Faults
 mod Answering
+mod Pieces
 mod Writing
 mod Fitting

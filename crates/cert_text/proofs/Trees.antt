@@ -18,7 +18,7 @@ use Rattle.cert_text.specs.TreeLines.{tree_line}
 use Rattle.cert_text.specs.TreeReading.{tree_line_at, grown_at, node_at}
 use Rattle.cert_text.specs.CertText.{tree_words, tree_text, LineFits}
 use Rattle.cert_text.proofs.Growing.{Reads}
-use Rattle.cert_text.proofs.Lines.{tree_line_takes, tree_line_again, words_plain}
+use Rattle.cert_text.proofs.TreeForms.{tree_line_takes, tree_line_again, words_plain}
 use Rattle.cert_text.proofs.Cutting.{bind_ok, guard_ok, done, ok_is, at_line_ok, cut_takes, line_at_again}
 use Rattle.cert_text.proofs.Shapes.{one_line, kids_text, text_Split, text_Branch, text_Cut, text_More, list_of, kids_of_list, count_of_list, all_left, all_right}
 

@@ -69,7 +69,7 @@ put_lines = line_form Put put_line put_words PutFits put_form
 
 -- ---- what is read is the text of the certificate
 
-abbrev Body : Type 0
+abbrev pub Body : Type 0
 Body = Option GoalText × List Put
 
 record TookTurn (c k : ℕ) (p : Place) (y : Body × Place) : Type 0 where
@@ -103,32 +103,32 @@ ended_ok : {A : Type 0} (b : Bool) (d : CertFault) (x y : A) → cond b (Ok x) (
 ended_ok true d x y e = (refl, ok_is x y e)
 ended_ok false d x y e = absurd cc
 
-abbrev cert_of : Rule → (ℕ × ℕ) → Outcome → Claim → Body → Plain → Cert
+abbrev pub cert_of : Rule → (ℕ × ℕ) → Outcome → Claim → Body → Plain → Cert
 cert_of rule sizes reported claim body tree = record { rule = rule; c = sizes.0; ballots = sizes.1; reported = reported; claim = claim; goal = body.0; puts = body.1; tree = tree }
 
 -- what is read from each line on
-abbrev after_tree : Rule → ℕ × ℕ → Outcome → Claim → Body → Plain × Place → Result Cert CertFault
+abbrev pub after_tree : Rule → ℕ × ℕ → Outcome → Claim → Body → Plain × Place → Result Cert CertFault
 after_tree rule sizes reported claim body tree = cond (eqb (length tree.1.1) 0) (Ok (cert_of rule sizes reported claim body tree.0)) (Err (fault Tail tree.1.0))
 
-abbrev after_body : Rule → ℕ × ℕ → Outcome → Claim → Body × Place → Result Cert CertFault
+abbrev pub after_body : Rule → ℕ × ℕ → Outcome → Claim → Body × Place → Result Cert CertFault
 after_body rule sizes reported claim body = node_at 256 body.1.0 body.1 >>= after_tree rule sizes reported claim body.0
 
-abbrev after_claim : Rule → ℕ × ℕ → Outcome → Claim × Place → Result Cert CertFault
+abbrev pub after_claim : Rule → ℕ × ℕ → Outcome → Claim × Place → Result Cert CertFault
 after_claim rule sizes reported claim = body_at sizes.0 claim.0 claim.1 >>= after_body rule sizes reported claim.0
 
-abbrev after_reported : Rule → ℕ × ℕ → Outcome × Place → Result Cert CertFault
+abbrev pub after_reported : Rule → ℕ × ℕ → Outcome × Place → Result Cert CertFault
 after_reported rule sizes reported = claim_at reported.1 >>= after_claim rule sizes reported.0
 
-abbrev after_size : Rule → (ℕ × ℕ) × Place → Result Cert CertFault
+abbrev pub after_size : Rule → (ℕ × ℕ) × Place → Result Cert CertFault
 after_size rule sizes = reported_at rule sizes.0.0 sizes.1 >>= after_reported rule sizes.0
 
-abbrev after_rule : Rule × Place → Result Cert CertFault
+abbrev pub after_rule : Rule × Place → Result Cert CertFault
 after_rule rule = size_at rule.1 >>= after_size rule.0
 
-abbrev after_first : Unit {0} × Place → Result Cert CertFault
+abbrev pub after_first : Unit {0} × Place → Result Cert CertFault
 after_first top = rule_at top.1 >>= after_rule
 
-by_lines : (text : List ℕ) → cert_at text ≡ (form_at first_line (1, text) >>= after_first)
+pub by_lines : (text : List ℕ) → cert_at text ≡ (form_at first_line (1, text) >>= after_first)
 unfolding cert_at
 by_lines text = refl
 

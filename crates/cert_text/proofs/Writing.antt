@@ -10,7 +10,9 @@ use Rattle.bound_tree.specs.declared.tree.Tree.TheVariants as program
 use Rattle.bound_tree.specs.Plain.{plain_of}
 use Rattle.bound_tree.specs.Lines.{SplitInto, BranchBy}
 use Rattle.cert_words.specs.Words.{line_of}
-use Rattle.cert_text.specs.CertText.{line_text, tree_text}
+use Rattle.cert_text.specs.declared.cert.Stop.{Stop}
+use Rattle.cert_text.specs.declared.cert.Stop.TheVariants.{Budget, Depth}
+use Rattle.cert_text.specs.CertText.{line_text, stop_words, tree_text}
 use Rattle.cert_text.proofs.Shapes.{one_line, printed_Split, printed_Branch}
 
 -- a line is its first field, and each other behind a space
@@ -26,6 +28,9 @@ spaced text (n ∷ ns) = flat_map-cons (λ v. 32 ∷ v) (text n) (map text ns) �
 numbers_spelled : {X : Type 0} (text : X → List ℕ) (w : List ℕ) (ns : List X) → line_of (w ∷ map text ns) ≡ w ++ flat_map (λ n. 32 ∷ text n) ns
 numbers_spelled text w ns = line_by_spaces w (map text ns) ∙ ap (λ (t : List ℕ). w ++ t) (spaced text ns)
 
+pub list_text : {X : Type 0} (text : X → List ℕ) (w : List ℕ) (ns : List X) → line_text (w ∷ map text ns) ≡ (w ++ flat_map (λ n. 32 ∷ text n) ns) ++ 10 ∷ []
+list_text text w ns = ap (λ (t : List ℕ). t ++ 10 ∷ []) (numbers_spelled text w ns)
+
 -- what three pushes leave
 after_three : (out w f z a b e : List ℕ) → a ≡ out ++ w → b ≡ a ++ f → e ≡ b ++ z → e ≡ out ++ (w ++ (f ++ z))
 after_three out w f z a b e p q r = r ∙ ap (λ (t : List ℕ). t ++ z) (q ∙ ap (λ (t : List ℕ). t ++ f) p) ∙ append_assoc (out ++ w) f z ∙ append_assoc out w (f ++ z)
@@ -35,6 +40,19 @@ list_done text out w a b e ns p q r =
     after_three out w (flat_map (λ n. 32 ∷ text n) ns) (10 ∷ []) a b e p q r
     ∙ ap (λ (t : List ℕ). out ++ t) (sym (append_assoc w (flat_map (λ n. 32 ∷ text n) ns) (10 ∷ [])))
     ∙ ap (λ (t : List ℕ). out ++ (t ++ 10 ∷ [])) (sym (numbers_spelled text w ns))
+
+-- two bounds, and then why the search stopped
+abbrev pub stop_rest : Stop → List ℕ
+stop_rest (Budget nodes) = line_text (codes " budget" ∷ decimal nodes ∷ [])
+stop_rest Depth = line_text (codes " depth" ∷ [])
+
+bounds_spaced : (l u y : List ℕ) → (codes "bounds" ++ 32 ∷ (l ++ 32 ∷ (u ++ y))) ++ 10 ∷ [] ≡ codes "bounds" ++ ((32 ∷ l) ++ ((32 ∷ u) ++ (y ++ 10 ∷ [])))
+bounds_spaced l u y =
+    ap (λ (t : List ℕ). codes "bounds" ++ 32 ∷ t) (append_assoc l (32 ∷ (u ++ y)) (10 ∷ []) ∙ ap (λ (t : List ℕ). l ++ 32 ∷ t) (append_assoc u y (10 ∷ [])))
+
+pub bounds_text : (low up : ℕ) (stop : Stop) → line_text (codes "bounds" ∷ decimal low ∷ decimal up ∷ stop_words stop) ≡ codes "bounds" ++ ((32 ∷ decimal low) ++ ((32 ∷ decimal up) ++ stop_rest stop))
+bounds_text low up (Budget nodes) = bounds_spaced (decimal low) (decimal up) (codes " budget" ++ 32 ∷ decimal nodes)
+bounds_text low up Depth = bounds_spaced (decimal low) (decimal up) (codes " depth")
 
 pub order_line : (ns : List ℕ) → line_text (codes "goal order" ∷ map decimal ns) ≡ line_text (codes "goal" ∷ codes "order" ∷ map decimal ns)
 order_line ns =

@@ -4,3 +4,4 @@ pub mod TreeLines
 pub mod TreeReading
 pub mod CertText
 pub mod CertReading
+pub mod Pieces

@@ -1,11 +1,12 @@
 // Reading a certificate.
-ghost use Rattle.std.specs.Prelude.{◌≡◌, ◌<◌, ◌≤◌, ◌+◌, ◌^◌, OnOk, IfOk, Ok};
+ghost use Rattle.std.specs.Prelude.{◌≡◌, ◌<◌, ◌≤◌, ◌+◌, ◌^◌, OnOk, IfOk, IfErr, Ok};
 ghost use Rattle.cert_words.specs.Words.{fields_of};
 ghost use Rattle.cert_text.specs.Reading.{Gives, Answers, form_at, many_at};
 ghost use Rattle.cert_text.specs.HeadLines.{reported_line, goal_line, put_line, puts_of};
 ghost use Rattle.cert_text.specs.CertReading.{turn_at, body_at, cert_at};
 ghost use Rattle.cert_text.specs.CertText.{CertText};
 ghost use Rattle.cert_text.specs.declared.cert.Cert.{Cert};
+ghost use Rattle.cert_text.specs.declared.fault.CertKind.TheVariants.{Memory};
 
 use crate::cert::{Cert, Claim, GoalText};
 use crate::fault::{CertFault, CertKind, ReadError};
@@ -28,6 +29,8 @@ pub fn read_cert(alloc: Global, text: &[u8]) -> Result<Cert, CertFault>
     ensures only { (cert : Cert) → CertText text.now cert → Answers result (Ok cert) }
     // Which fault it is, and in which line.
     ensures exact { Answers result (cert_at text.now) }
+    // Where memory ran out no line is named.
+    ensures memory { IfErr result (λ f. f.kind ≡ Memory → f.line ≡ 0) }
 {
     match read_all(alloc, text) {
         Ok(cert) => Ok(cert),

@@ -4,8 +4,8 @@
 //! by which fewer don't. The grammar is a relation between bytes and certificates (`specs/CertText.antt`). The crate promises
 //! that `read_cert` answers the certificate exactly where the text is in the grammar, and otherwise the first fault with its
 //! line; that `print_cert` writes the text of a certificate within the limits; that one text has one certificate and one
-//! certificate one text. It stands on the rules and outcomes of `ballot_form`, the replacements of `alteration_model`, the
-//! trees of `bound_tree` and the lines of `cert_words`.
+//! certificate one text. The calls of `lines` add single lines, for other texts that have the same ones. The crate stands on the rules
+//! and outcomes of `ballot_form`, the replacements of `alteration_model`, the trees of `bound_tree` and the lines of `cert_words`.
 #![tactic(auto)]
 
 mod cert;
@@ -14,7 +14,7 @@ mod fault;
 mod head_line;
 mod laws;
 mod limits;
-mod line_write;
+pub mod lines;
 mod printable;
 mod reader;
 mod tree_limits;

@@ -5,7 +5,7 @@ ghost use Rattle.bound_tree.specs.Lines.{BranchBy};
 ghost use Rattle.bound_tree.specs.Plain.{plain_of};
 ghost use Rattle.cert_text.specs.CertText.{line_text, tree_words, tree_text};
 
-use crate::line_write::{push_list, push_number, push_one, push_two};
+use crate::lines::{push_list, push_number, push_one, push_two};
 use bound_tree::Tree;
 use mov_base::Memory;
 use row_program::Feature;

@@ -1,12 +1,13 @@
 // Writing a certificate.
-ghost use Rattle.std.specs.Prelude.{◌≡◌, ◌++◌, ◌∷◌, [], map, codes, decimal, OnOk, IfOk};
-ghost use Rattle.cert_text.specs.CertText.{line_text, rule_words, outcome_words, stop_words, claim_words, put_words, goal_words, puts_text, cert_text, IsPrintable, CertText};
+ghost use Rattle.std.specs.Prelude.{◌≡◌, ◌++◌, ◌∷◌, [], map, decimal, OnOk, IfOk};
+ghost use Rattle.cert_text.specs.CertText.{line_text, put_words, goal_words, puts_text, cert_text, IsPrintable, CertText};
 
-use crate::cert::{Cert, Claim, GoalText, Stop};
-use crate::line_write::{push_list, push_number, push_numbers, push_one, push_two};
+use crate::cert::{Cert, GoalText};
+use crate::lines::{
+    push_claim, push_list, push_number, push_numbers, push_one, push_reported, push_rule, push_two,
+};
 use crate::tree_write::push_tree;
 use alteration_model::Put;
-use ballot_form::{Outcome, Rule};
 use mov_base::Memory;
 use std::alloc::Global;
 
@@ -33,58 +34,6 @@ pub fn print_cert(alloc: Global, cert: &Cert) -> Result<Vec<u8>, Memory>
     push_puts(&mut out, cert.puts.as_slice())?;
     push_tree(&mut out, cert.tree.at(0))?;
     Ok(out)
-}
-
-/// Adds the line of the rule.
-fn push_rule(out: &mut Vec<u8>, rule: Rule) -> Result<(), Memory>
-    ensures { OnOk result (out.new.items ≡ out.old.items ++ line_text (rule_words rule)) }
-{
-    match rule {
-        Rule::Plurality => out.extend_from_slice(b"rule plurality\n")?,
-        Rule::Borda => out.extend_from_slice(b"rule borda\n")?,
-        Rule::Condorcet => out.extend_from_slice(b"rule condorcet\n")?,
-        Rule::Irv => out.extend_from_slice(b"rule irv\n")?,
-        Rule::Dhondt(seats) => push_one(out, b"rule dhondt", u64::from(seats))?,
-    }
-    Ok(())
-}
-
-/// Adds the line of the reported outcome.
-fn push_reported(out: &mut Vec<u8>, reported: &Outcome) -> Result<(), Memory>
-    ensures { OnOk result (out.new.items ≡ out.old.items ++ line_text (outcome_words reported.now)) }
-{
-    match reported {
-        Outcome::Winner(x) => push_one(out, b"reported", u64::from(*x))?,
-        Outcome::NoWinner => out.extend_from_slice(b"reported none\n")?,
-        Outcome::Seats(seats) => push_list(out, b"reported", seats.as_slice())?,
-    }
-    Ok(())
-}
-
-/// Adds the line of the claim.
-fn push_claim(out: &mut Vec<u8>, claim: Claim) -> Result<(), Memory>
-    ensures { OnOk result (out.new.items ≡ out.old.items ++ line_text (claim_words claim)) }
-{
-    match claim {
-        Claim::Margin(k) => push_one(out, b"margin", u64::from(k))?,
-        Claim::Fixed => out.extend_from_slice(b"fixed\n")?,
-        Claim::Bounds { low, up, stop } => push_bounds(out, low, up, stop)?,
-    }
-    Ok(())
-}
-
-/// Adds the line of two bounds.
-fn push_bounds(out: &mut Vec<u8>, low: u32, up: u32, stop: Stop) -> Result<(), Memory>
-    ensures { OnOk result (out.new.items ≡ out.old.items ++ line_text (codes "bounds" ∷ decimal low ∷ decimal up ∷ stop_words stop)) }
-{
-    out.extend_from_slice(b"bounds")?;
-    push_number(out, low)?;
-    push_number(out, up)?;
-    match stop {
-        Stop::Budget(nodes) => push_one(out, b" budget", u64::from(nodes))?,
-        Stop::Depth => out.extend_from_slice(b" depth\n")?,
-    }
-    Ok(())
 }
 
 /// Adds the line of the goal.

@@ -1,5 +1,5 @@
 // What is left of a line, read as numbers.
-ghost use Rattle.std.specs.Prelude.{◌≡◌, ◌<◌, ◌≤◌, ◌^◌, [], IfOk};
+ghost use Rattle.std.specs.Prelude.{◌≡◌, ◌<◌, ◌≤◌, ◌^◌, [], drop, length, IfOk, OnOk};
 ghost use Rattle.std.specs.Str.{bytes_eq};
 ghost use Rattle.cert_words.specs.Words.{ahead};
 ghost use Rattle.cert_words.specs.Forms.{begins, behind, alone, made, one_of, two_of, numbers_of, count_of, joined, single};
@@ -9,12 +9,14 @@ use crate::numbers::{LineFault, both, number};
 use crate::parts::Fields;
 use mov_base::Memory;
 
-/// The part, where no field is left.
+/// The part, where no field is left. Where one is, it is passed over.
 pub fn nothing_more<T: Drop>(
     part: Result<T, LineFault>,
     fields: &mut Fields<'_>,
 ) -> Result<T, LineFault>
-    ensures { result ≡ alone part (ahead fields.old) }
+    ensures is { result ≡ alone part (ahead fields.old) }
+    ensures rest { ahead fields.new ≡ drop 1 (ahead fields.old) }
+    ensures line { fields.new.line ≡ fields.old.line }
 {
     match fields.next() {
         None => part,
@@ -22,11 +24,13 @@ pub fn nothing_more<T: Drop>(
     }
 }
 
-/// The one number that is left, from `low` to `high`.
+/// The one number that is left, from `low` to `high`. It passes over two fields at most.
 pub fn one_number(low: u64, high: u64, fields: &mut Fields<'_>) -> Result<u64, LineFault>
     requires { high < 2 ^ 63 }
     ensures is { result ≡ one_of low high (ahead fields.old) }
     ensures within { IfOk result (λ n. (low ≤ n) × (n ≤ high)) }
+    ensures rest { ahead fields.new ≡ drop 2 (ahead fields.old) }
+    ensures line { fields.new.line ≡ fields.old.line }
 {
     match fields.next() {
         None => Err(LineFault::BadLine),
@@ -34,7 +38,7 @@ pub fn one_number(low: u64, high: u64, fields: &mut Fields<'_>) -> Result<u64, L
     }
 }
 
-/// The two numbers that are left, each within its limits.
+/// The two numbers that are left, each within its limits. It passes over three fields at most.
 pub fn two_numbers(
     low: u64,
     high: u64,
@@ -46,6 +50,8 @@ pub fn two_numbers(
     requires second { high2 < 2 ^ 63 }
     ensures is { result ≡ two_of low high low2 high2 (ahead fields.old) }
     ensures within { IfOk result (λ x. (low ≤ x.0) × (x.0 ≤ high) × (low2 ≤ x.1) × (x.1 ≤ high2)) }
+    ensures rest { ahead fields.new ≡ drop 3 (ahead fields.old) }
+    ensures line { fields.new.line ≡ fields.old.line }
 {
     match fields.next() {
         None => Err(LineFault::BadLine),
@@ -83,7 +89,9 @@ pub fn any_numbers<N: NumberList>(
     requires limit { high < 2 ^ 63 }
     requires kept { high ≤ N.most }
     requires empty { N.numbers empty ≡ [] }
-    ensures { IfOk result (λ r. made N.numbers r ≡ numbers_of low high (ahead fields.old)) }
+    ensures is { IfOk result (λ r. made N.numbers r ≡ numbers_of low high (ahead fields.old)) }
+    ensures rest { OnOk result (ahead fields.new ≡ []) }
+    ensures line { fields.new.line ≡ fields.old.line }
 {
     let mut found = Ok(empty);
     while let Some(field) = fields.next() {
@@ -92,7 +100,8 @@ pub fn any_numbers<N: NumberList>(
     Ok(found)
 }
 
-/// The numbers that are left, exactly so many and each from `low` to `high`, in the list `empty`.
+/// The numbers that are left, exactly so many and each from `low` to `high`, in the list `empty`. Where so many fields aren't left,
+/// none is read.
 pub fn so_many_numbers<N: NumberList>(
     empty: N,
     count: usize,
@@ -103,7 +112,10 @@ pub fn so_many_numbers<N: NumberList>(
     requires limit { high < 2 ^ 63 }
     requires kept { high ≤ N.most }
     requires empty { N.numbers empty ≡ [] }
-    ensures { IfOk result (λ r. made N.numbers r ≡ count_of count low high (ahead fields.old)) }
+    ensures is { IfOk result (λ r. made N.numbers r ≡ count_of count low high (ahead fields.old)) }
+    ensures rest { length (ahead fields.old) ≡ count → OnOk result (ahead fields.new ≡ []) }
+    ensures unread { (length (ahead fields.old) ≡ count → ⊥) → fields.new ≡ fields.old }
+    ensures line { fields.new.line ≡ fields.old.line }
 {
     if fields.left() != count {
         return Ok(Err(LineFault::BadLine));
@@ -115,6 +127,7 @@ pub fn so_many_numbers<N: NumberList>(
 pub fn next_is(fields: &mut Fields<'_>, word: &[u8]) -> bool
     ensures is { result ≡ begins word.now (ahead fields.old) }
     ensures rest { ahead fields.new ≡ behind (ahead fields.old) }
+    ensures line { fields.new.line ≡ fields.old.line }
 {
     match fields.next() {
         None => false,

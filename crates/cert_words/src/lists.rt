@@ -1,5 +1,5 @@
 // Lists that numbers are read into.
-ghost use Rattle.std.specs.Prelude.{◌≡◌, ◌≤◌, ◌++◌, ◌∷◌, [], List, ℕ, OnOk};
+ghost use Rattle.std.specs.Prelude.{◌≡◌, ◌≤◌, ◌++◌, ◌∷◌, [], List, ℕ, OnOk, OnErr};
 
 use mov_base::{List, Memory};
 
@@ -9,10 +9,11 @@ pub trait NumberList: Drop {
 
     ghost most: { ℕ };
 
-    /// Adds a number at the end.
+    /// Adds a number at the end. Without memory the list stays as it was.
     fn keep(&mut self, number: u64) -> Result<(), Memory>
         requires small { number ≤ most }
-        ensures { OnOk result (numbers self.new ≡ numbers self.old ++ number ∷ []) };
+        ensures ok { OnOk result (numbers self.new ≡ numbers self.old ++ number ∷ []) }
+        ensures err { OnErr result (numbers self.new ≡ numbers self.old) };
 }
 
 impl NumberList for List<u8> {

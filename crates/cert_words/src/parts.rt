@@ -78,7 +78,8 @@ impl<'a> Fields<'a> {
         ensures span { IfSome result (λ f. f.text.now ≡ slice_range self.old.line f.start (f.start + length f.text.now)) }
         ensures start { IfSome result (λ f. f.start ≡ self.old.start) }
         ensures line { self.new.line ≡ self.old.line }
-        ensures rises { IfSome result (λ f. self.new.done ≡ false → f.start + length f.text.now < self.new.start) }
+        ensures rises { IfSome result (λ f. self.new.done ≡ false → self.new.start ≡ f.start + length f.text.now + 1) }
+        ensures ended { IsTrue self.new.done → self.new.start ≡ self.old.start }
     {
         if self.done {
             return None;

@@ -4,7 +4,7 @@ use Rattle.cert_text.proofs.tree_write.+trees.Goals as goal
 
 pub push_tree-returns-in_ok-push_one-in-Split : goal.push_tree-returns-in_ok-push_one-in-Split
 push_tree-returns-in_ok-push_one-in-Split t c = on_ok_weaker c.push_trees.result
-    (split_done c.args.out.now.items c.push_one.new.out.items c.push_trees.new.out.items c.args.tree.now c.in-Split.kids c.as_slice.result.now c.len.result c.in-Split.is c.as_slice.ensures c.len.ensures c.in_ok-push_one-in-Split.ensures)
+    (split_done c.args.out.now.items c.push_one.new.out.items c.push_trees.new.out.items c.args.tree.now c.in-Split.kids c.as_slice.result.now c.len.result c.in-Split.is c.as_slice.ensures c.len.ensures c.in_ok-push_one-in-Split.ensures.line)
     c.push_trees.ensures
 
 pub push_tree-returns-in_ok-push_tree-in-Branch : goal.push_tree-returns-in_ok-push_tree-in-Branch
