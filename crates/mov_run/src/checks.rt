@@ -1,6 +1,5 @@
 // The check of a certificate, and the text of its verdict.
-ghost use Rattle.std.specs.Prelude.{◌≡◌, ◌++◌, ◌∷◌, [], IfOk, OnOk, codes, decimal};
-ghost use Rattle.cert_text.specs.CertText.{claim_words, line_text, stop_words};
+ghost use Rattle.std.specs.Prelude.{◌≡◌, ◌++◌, IfOk, OnOk};
 ghost use Rattle.mov_run.specs.Allowed.{AnswersOrMemory};
 ghost use Rattle.mov_run.specs.Verdicts.{refused_text, status_after, valid_text, verdict_text as text_of};
 
@@ -8,10 +7,9 @@ use crate::jobs::Job;
 use crate::loads::{load_cert, load_contest};
 use crate::runs::{Output, Status};
 use crate::stops::Stop;
-use crate::tally::push_rule;
-use crate::text::{push_number, push_one};
 use ballot_form::Text;
-use cert_text::{Cert, Claim};
+use cert_text::Cert;
+use cert_text::lines::{push_claim, push_number, push_one, push_rule};
 use margin_check::{Reason, Verdict, check};
 use mov_base::{List, Memory};
 use mov_edge::Files;
@@ -77,30 +75,4 @@ fn push_refused(out: &mut Vec<u8>, reason: Reason, line: u32) -> Result<(), Memo
     out.push(b' ')?;
     out.extend_from_slice(reason.name().as_bytes())?;
     push_one(out, b" line", u64::from(line))
-}
-
-/// Adds the line of the claim.
-fn push_claim(out: &mut Vec<u8>, claim: Claim) -> Result<(), Memory>
-    ensures { OnOk result (out.new.items ≡ out.old.items ++ line_text (claim_words claim)) }
-{
-    match claim {
-        Claim::Margin(k) => push_one(out, b"margin", u64::from(k))?,
-        Claim::Fixed => out.extend_from_slice(b"fixed\n")?,
-        Claim::Bounds { low, up, stop } => push_bounds(out, low, up, stop)?,
-    }
-    Ok(())
-}
-
-/// Adds the line of two bounds.
-fn push_bounds(out: &mut Vec<u8>, low: u32, up: u32, stop: cert_text::Stop) -> Result<(), Memory>
-    ensures { OnOk result (out.new.items ≡ out.old.items ++ line_text (codes "bounds" ∷ decimal low ∷ decimal up ∷ stop_words stop)) }
-{
-    out.extend_from_slice(b"bounds")?;
-    push_number(out, u64::from(low))?;
-    push_number(out, u64::from(up))?;
-    match stop {
-        cert_text::Stop::Budget(nodes) => push_one(out, b" budget", u64::from(nodes))?,
-        cert_text::Stop::Depth => out.extend_from_slice(b" depth\n")?,
-    }
-    Ok(())
 }

@@ -1,18 +1,17 @@
 // The text of a tally.
 ghost use Rattle.std.specs.Prelude.{◌≡◌, ◌++◌, ◌∷◌, [], IfOk, OnOk, codes, decimal};
-ghost use Rattle.std.specs.List.{flat_map};
 ghost use Rattle.ballot_csv.specs.BallotFile.{named_poll_of};
 ghost use Rattle.ballot_form.specs.Rules.{IsRule};
 ghost use Rattle.cert_text.specs.CertText.{line_text};
-ghost use Rattle.mov_run.specs.Tally.{IsCounted, IsTally, names_text, reported_text, rule_text};
+ghost use Rattle.mov_run.specs.Tally.{IsCounted, IsTally, names_text, reported_text};
 ghost use Rattle.ballot_form.specs.declared.outcome.Outcome.TheVariants.{NoWinner, Seats, Winner};
 
 use crate::tally_pairs::pairs_count;
 use crate::tally_rounds::rounds_count;
 use crate::tally_scores::{borda_count, plurality_count};
 use crate::tally_seats::seats_count;
-use crate::text::{push_number, push_one, push_two};
-use ballot_form::{Cand, Contest, Roll, Rule, Text};
+use ballot_form::{Cand, Contest, Outcome, Roll, Rule, Text};
+use cert_text::lines::{push_list, push_number, push_reported, push_rule, push_two};
 use mov_base::{List, Memory};
 use std::alloc::Global;
 
@@ -51,20 +50,6 @@ fn count_of(alloc: Global, roll: &Roll, rule: Rule) -> Result<List<u8>, Memory>
     }
 }
 
-/// Adds the line of the rule.
-pub(crate) fn push_rule(out: &mut Vec<u8>, rule: Rule) -> Result<(), Memory>
-    ensures { OnOk result (out.new.items ≡ out.old.items ++ rule_text rule) }
-{
-    match rule {
-        Rule::Plurality => out.extend_from_slice(b"rule plurality\n")?,
-        Rule::Borda => out.extend_from_slice(b"rule borda\n")?,
-        Rule::Condorcet => out.extend_from_slice(b"rule condorcet\n")?,
-        Rule::Dhondt(s) => push_one(out, b"rule dhondt", u64::from(s))?,
-        Rule::Irv => out.extend_from_slice(b"rule irv\n")?,
-    }
-    Ok(())
-}
-
 /// Adds a line for each name.
 fn push_names(out: &mut Vec<u8>, names: &[Text]) -> Result<(), Memory>
     ensures { OnOk result (out.new.items ≡ out.old.items ++ names_text names.now) }
@@ -91,33 +76,19 @@ fn push_name(out: &mut Vec<u8>, x: u64, name: &str) -> Result<(), Memory>
 pub(crate) fn push_winner(out: &mut Vec<u8>, x: Cand) -> Result<(), Memory>
     ensures { OnOk result (out.new.items ≡ out.old.items ++ reported_text (Winner x)) }
 {
-    push_one(out, b"reported", u64::from(x))
+    push_reported(out, &Outcome::Winner(x))
 }
 
 /// Adds the line that says that nobody wins.
 pub(crate) fn push_no_winner(out: &mut Vec<u8>) -> Result<(), Memory>
     ensures { OnOk result (out.new.items ≡ out.old.items ++ reported_text NoWinner) }
 {
-    out.extend_from_slice(b"reported none\n")?;
-    Ok(())
+    push_reported(out, &Outcome::NoWinner)
 }
 
 /// Adds the line of the reported seats.
 pub(crate) fn push_seats(out: &mut Vec<u8>, shares: &[u16]) -> Result<(), Memory>
     ensures { OnOk result (out.new.items ≡ out.old.items ++ reported_text (Seats shares.now)) }
 {
-    out.extend_from_slice(b"reported")?;
-    push_numbers(out, shares)?;
-    out.push(b'\n')?;
-    Ok(())
-}
-
-/// Adds a space and a number for each number of the list.
-fn push_numbers(out: &mut Vec<u8>, numbers: &[u16]) -> Result<(), Memory>
-    ensures { OnOk result (out.new.items ≡ out.old.items ++ flat_map (λ n. 32 ∷ decimal n) numbers.now) }
-{
-    for number in numbers {
-        push_number(out, u64::from(*number))?;
-    }
-    Ok(())
+    push_list(out, b"reported", shares)
 }
