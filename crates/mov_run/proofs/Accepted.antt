@@ -1,6 +1,6 @@
 -- A check that ends well.
 use Rattle.std.proofs.Common.{ℕ, List, ◌≡◌, refl, subst, inl, inr}
-use Rattle.std.specs.Prelude.{Ok, Err}
+use Rattle.std.specs.Prelude.{Ok}
 use Rattle.mov_edge.specs.Outside.{Took}
 use Rattle.ballot_csv.specs.BallotFile.{NamedPoll}
 use Rattle.cert_text.specs.declared.cert.Cert.{Cert}
