@@ -18,7 +18,6 @@ mod tally_pairs;
 mod tally_rounds;
 mod tally_scores;
 mod tally_seats;
-mod text;
 
 pub use jobs::{Job, WordFault, parse};
 pub use laws::a_tally_is_one_text;

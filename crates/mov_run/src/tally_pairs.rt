@@ -6,8 +6,8 @@ ghost use Rattle.mov_run.specs.Tally.{IsCounted, pair_text, pairs_of, pairs_text
 ghost use Rattle.mov_run.specs.Counted.{condorcet_outcome_of};
 
 use crate::tally::{push_no_winner, push_winner};
-use crate::text::push_number;
 use ballot_form::{Cand, Roll};
+use cert_text::lines::push_number;
 use condorcet_count::{Matrix, condorcet_outcome, pairs};
 use mov_base::{List, Memory};
 use std::alloc::Global;

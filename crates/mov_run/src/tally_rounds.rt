@@ -6,8 +6,8 @@ ghost use Rattle.irv_count.specs.Orders.{IsOrder, held_count, stands};
 ghost use Rattle.mov_run.specs.Tally.{IsCounted, for_each, held_field, round_text, rounds_text};
 
 use crate::tally::push_winner;
-use crate::text::push_number;
 use ballot_form::{Cand, Roll};
+use cert_text::lines::push_number;
 use irv_count::{all_of, count_irv, held_counts, stands_in, without};
 use mov_base::{List, Memory};
 use std::alloc::Global;

@@ -5,8 +5,8 @@ ghost use Rattle.ballot_form.specs.declared.rule.Rule.TheVariants.{Borda, Plural
 ghost use Rattle.mov_run.specs.Tally.{IsCounted, reported_text, scores_text};
 
 use crate::tally::push_winner;
-use crate::text::push_two;
 use ballot_form::{Cand, Roll};
+use cert_text::lines::push_two;
 use mov_base::{List, Memory};
 use score_count::{borda, plurality, score_winner};
 use std::alloc::Global;

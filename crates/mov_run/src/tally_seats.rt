@@ -5,8 +5,8 @@ ghost use Rattle.cert_text.specs.CertText.{line_text};
 ghost use Rattle.mov_run.specs.Tally.{IsCounted, seats_text};
 
 use crate::tally::push_seats;
-use crate::text::push_number;
 use ballot_form::Roll;
+use cert_text::lines::push_number;
 use dhondt_seats::{party_votes, seats};
 use mov_base::{List, Memory};
 use std::alloc::Global;
