@@ -12,11 +12,10 @@ use crate::find::find;
 use crate::growth::put;
 use crate::tree::{count, deepest};
 use crate::{GrowFault, MultiplierLists, Multipliers, Tree};
-use mov_base::Memory;
+use mov_base::{List, Memory};
 use row_program::Feature;
 use std::alloc::Global;
 use std::marker::Model;
-use tree_owners::{Many, One};
 
 /// The most nodes of a bound tree.
 pub const MOST_NODES: u32 = 100_000;
@@ -245,12 +244,12 @@ fn stands_lowest(tree: &Tree, depth: u32, node: u32) -> bool
 }
 
 /// Cuts with these multipliers.
-fn cuts(alloc: Global, kids: MultiplierLists) -> Result<Many<Tree>, Memory>
+fn cuts(alloc: Global, kids: MultiplierLists) -> Result<List<Tree>, Memory>
     ensures { IfOk result (λ cuts. cuts ≡ map program.Cut kids) }
 {
     let mut cuts = Vec::with_capacity(alloc, kids.len())?;
     for multipliers in kids.into_vec() {
         cuts.push(Tree::Cut(multipliers))?;
     }
-    Ok(Many::from_vec(cuts))
+    Ok(List::from_vec(cuts))
 }

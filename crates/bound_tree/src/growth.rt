@@ -6,8 +6,8 @@ ghost use Rattle.bound_tree.specs.Places.{IsPlace, IsPlaceIn};
 ghost use Rattle.bound_tree.specs.Growth.{replaced, replaced_in};
 
 use crate::Tree;
+use mov_base::List;
 use std::mem;
-use tree_owners::Many;
 
 /// Exchanges the node with this number for `new`, in a tree whose topmost node has this depth, and gives the node's depth;
 /// or what is left of the number behind the tree.
@@ -39,7 +39,7 @@ pub(crate) fn put(tree: &mut Tree, number: u32, depth: u32, new: &mut Tree) -> R
 /// The same in several trees, numbered from the first on.
 #[cycle(put)]
 #[tactic(auto, using(crate::proofs::Shapes::size_kid, crate::proofs::Shapes::size_more, crate::proofs::Shapes::highest_kid, crate::proofs::Shapes::kid_kept))]
-fn put_among(kids: &mut Many<Tree>, number: u32, depth: u32, new: &mut Tree) -> Result<u32, u32>
+fn put_among(kids: &mut List<Tree>, number: u32, depth: u32, new: &mut Tree) -> Result<u32, u32>
     requires shallow { depth + highest (kids_of (map plain_of kids.old)) < 2 ^ 32 }
     ensures grown { OnOk result (kids_of (map plain_of kids.new) ≡ replaced_in number (plain_of new.old) (kids_of (map plain_of kids.old))) }
     ensures found { IfOk result (λ deep. IsPlaceIn (kids_of (map plain_of kids.old)) depth number (plain_of new.new) deep) }

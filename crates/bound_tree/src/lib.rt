@@ -4,8 +4,8 @@
 //! Contracts see a tree as plain data (`specs/Plain.antt`). The nodes of a bound tree are numbered from 0 in preorder; it has
 //! at most 100,000 of them, and a depth of at most 256. The crate promises that a bound tree grows at just the cut that was
 //! named, by just the kids that were given, or stays as it was; that each fault comes exactly where the bounds say; and that
-//! a node, its depth, the count and the depth of the tree are exact. It stands on the base crate, on the features of
-//! `row_program` and on the owners of `tree_owners`, through which a tree holds its kids.
+//! a node, its depth, the count and the depth of the tree are exact. It stands on the features of
+//! `row_program` and on the base crate, through whose list and owner a tree holds its kids.
 #![tactic(auto)]
 
 mod bound;

@@ -4,14 +4,14 @@ ghost use Rattle.bound_tree.specs.Plain.{plain_of, kids_of};
 ghost use Rattle.bound_tree.specs.Nodes.{size, height, highest};
 
 use crate::Multipliers;
+use mov_base::{List, One};
 use row_program::Feature;
-use tree_owners::{Many, One};
 
 /// A tree of bounds, read in contracts as plain data by `plain_of`.
 #[derive(Debug, Drop)]
 pub enum Tree {
     /// A kid for each goal of the node's cover, in their order.
-    Split(Many<Tree>),
+    Split(List<Tree>),
     /// The half where the feature is at most the value, and the half where it is greater.
     Branch(Feature, u32, One<Tree>, One<Tree>),
     /// The multipliers that rule the node out.

@@ -5,11 +5,11 @@ use Rattle.std.specs.Str.{bytes_eq}
 use Rattle.std.specs.List.{AllByRecursion}
 use Rattle.std.proofs.lemmas.List.Elements.{All-nil, All-cons, All-head, All-tail}
 use Rattle.std.proofs.lemmas.Slice.Eq.{bytes_eq-Decides}
-use Rattle.cert_words.specs.declared.numbers.LineFault.{LineFault}
-use Rattle.cert_words.specs.declared.numbers.LineFault.TheVariants.{BadLine}
-use Rattle.cert_words.specs.Forms.{made, alone, after}
-use Rattle.cert_words.proofs.Many.{IsWithin, same_fields}
-use Rattle.cert_words.proofs.Joining.{ArePlain, number_plain}
+use Rattle.text_lines.specs.declared.numbers.LineFault.{LineFault}
+use Rattle.text_lines.specs.declared.numbers.LineFault.TheVariants.{BadLine}
+use Rattle.text_lines.specs.Forms.{made, alone, after}
+use Rattle.text_lines.proofs.Many.{IsWithin, same_fields}
+use Rattle.text_lines.proofs.Joining.{ArePlain, number_plain}
 
 pub made_ok : {A B : Type 0} (f : A → B) (r : Result A LineFault) (y : B) → made f r ≡ Ok y → (x : A) × (r ≡ Ok x) × (f x ≡ y)
 made_ok f (Ok x) y e = (x, refl, cc)

@@ -5,9 +5,9 @@ use Rattle.bound_tree.specs.Plain.{Plain, Split, Branch, kids_of}
 use Rattle.bound_tree.specs.Lines.{Line, SplitInto, BranchBy, CutWith}
 use Rattle.ballot_form.specs.declared.rule.Rule.{Rule}
 use Rattle.ballot_form.specs.declared.outcome.Outcome.{Outcome}
-use Rattle.cert_words.specs.declared.numbers.LineFault.{LineFault}
-use Rattle.cert_words.specs.declared.numbers.LineFault.TheVariants as line
-use Rattle.cert_words.specs.Words.{fields_of}
+use Rattle.text_lines.specs.declared.numbers.LineFault.{LineFault}
+use Rattle.text_lines.specs.declared.numbers.LineFault.TheVariants as line
+use Rattle.text_lines.specs.Words.{fields_of}
 use Rattle.cert_text.specs.declared.fault.CertFault.{CertFault}
 use Rattle.cert_text.specs.declared.fault.CertKind.TheVariants.{Memory, TooDeep, TreeEnds, TooManyNodes, Tail}
 use Rattle.cert_text.specs.declared.cert.Claim.{Claim}

@@ -3,8 +3,8 @@ use Rattle.std.proofs.Common.{◌≡◌, ℕ, ◌<◌, ◌^◌, List, [], ◌∷
 use Rattle.std.specs.Prelude.{All}
 use Rattle.std.specs.List.{AllByRecursion}
 use Rattle.std.proofs.lemmas.List.Elements.{All-from_recursion}
-use Rattle.cert_words.specs.Forms.{numbers_of}
-use Rattle.cert_words.proofs.Many.{IsWithin, numbers_take}
+use Rattle.text_lines.specs.Forms.{numbers_of}
+use Rattle.text_lines.proofs.Many.{IsWithin, numbers_take}
 
 below : (ns : List ℕ) → AllByRecursion (IsWithin 0 9223372036854775807) ns → AllByRecursion (λ n. n < 2 ^ 63) ns
 below [] h = tt

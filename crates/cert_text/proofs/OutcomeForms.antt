@@ -8,10 +8,10 @@ use Rattle.ballot_form.specs.declared.rule.Rule.{Rule}
 use Rattle.ballot_form.specs.declared.rule.Rule.TheVariants.{Plurality, Borda, Condorcet, Dhondt, Irv}
 use Rattle.ballot_form.specs.declared.outcome.Outcome.{Outcome}
 use Rattle.ballot_form.specs.declared.outcome.Outcome.TheVariants.{Winner, NoWinner, Seats}
-use Rattle.cert_words.specs.Forms.{is_digit, number_of, made, alone, one_of, count_of}
-use Rattle.cert_words.proofs.Digits.{own}
-use Rattle.cert_words.proofs.Many.{one_takes, one_again, same_fields}
-use Rattle.cert_words.proofs.Joining.{ArePlain, number_plain}
+use Rattle.text_lines.specs.Forms.{is_digit, number_of, made, alone, one_of, count_of}
+use Rattle.text_lines.proofs.Digits.{own}
+use Rattle.text_lines.proofs.Many.{one_takes, one_again, same_fields}
+use Rattle.text_lines.proofs.Joining.{ArePlain, number_plain}
 use Rattle.cert_text.specs.HeadLines.{winner_of, winner_or_none_of, outcome_of, reported_line}
 use Rattle.cert_text.specs.CertText.{outcome_words, OutcomeFits}
 use Rattle.cert_text.proofs.Forms.{IsFieldForm}

@@ -4,11 +4,11 @@ use Rattle.std.specs.Prelude.{codes, decimal}
 use Rattle.std.specs.Str.{bytes_eq}
 use Rattle.std.proofs.lemmas.Bool.{ltb-false, le-ltb}
 use Rattle.std.proofs.lemmas.List.{length-map}
-use Rattle.cert_words.specs.declared.numbers.LineFault.TheVariants.{BadLine}
-use Rattle.cert_words.specs.Forms.{number_of, both, made, one_of, two_of, numbers_of}
-use Rattle.cert_words.proofs.Inverse.{guard_ok, number_takes, number_again}
-use Rattle.cert_words.proofs.Many.{both_ok, one_takes, one_again, two_takes, two_again, numbers_take, numbers_again, same_fields}
-use Rattle.cert_words.proofs.Joining.{ArePlain, number_plain}
+use Rattle.text_lines.specs.declared.numbers.LineFault.TheVariants.{BadLine}
+use Rattle.text_lines.specs.Forms.{number_of, both, made, one_of, two_of, numbers_of}
+use Rattle.text_lines.proofs.Inverse.{guard_ok, number_takes, number_again}
+use Rattle.text_lines.proofs.Many.{both_ok, one_takes, one_again, two_takes, two_again, numbers_take, numbers_again, same_fields}
+use Rattle.text_lines.proofs.Joining.{ArePlain, number_plain}
 use Rattle.row_program.specs.declared.Feature.TheVariants.{From, Arc}
 use Rattle.bound_tree.specs.Lines.{Line, SplitInto, BranchBy, CutWith}
 use Rattle.cert_text.specs.TreeLines.{split_line, from_line, arc_line, branch_line, cut_line, tree_line}

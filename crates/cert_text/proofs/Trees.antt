@@ -10,8 +10,8 @@ use Rattle.row_program.specs.declared.Feature.TheVariants as feature
 use Rattle.bound_tree.specs.Plain.{Plain, Kids, Split, Branch, Cut, None, More, kids_of}
 use Rattle.bound_tree.specs.Nodes.{size, size_all, height, highest}
 use Rattle.bound_tree.specs.Lines.{Line, SplitInto, BranchBy, CutWith, kid_count, lines_of, lines_of_all}
-use Rattle.cert_words.specs.Words.{fields_of, line_of}
-use Rattle.cert_words.proofs.Joining.{line_lacks, fields_again}
+use Rattle.text_lines.specs.Words.{fields_of, line_of}
+use Rattle.text_lines.proofs.Joining.{line_lacks, fields_again}
 use Rattle.cert_text.specs.declared.fault.CertKind.TheVariants.{TreeEnds, TooDeep, TooManyNodes}
 use Rattle.cert_text.specs.Reading.{◌>>=◌, Place, fault, line_at, at_line, many_at}
 use Rattle.cert_text.specs.TreeLines.{tree_line}

@@ -3,12 +3,12 @@ use Rattle.std.proofs.Common.{◌≡◌, ℕ, cond, List, [], ◌∷◌, map, Re
 use Rattle.std.specs.Prelude.{codes, decimal}
 use Rattle.std.specs.Str.{bytes_eq}
 use Rattle.alteration_model.specs.declared.puts.Put.{Put}
-use Rattle.cert_words.specs.declared.numbers.LineFault.{LineFault}
-use Rattle.cert_words.specs.declared.numbers.LineFault.TheVariants.{BadLine}
-use Rattle.cert_words.specs.Forms.{number_of, both, made, one_of, two_of, numbers_of, count_of}
-use Rattle.cert_words.proofs.Inverse.{number_takes, number_again}
-use Rattle.cert_words.proofs.Many.{both_ok, one_takes, one_again, two_takes, two_again, numbers_take, numbers_again, same_fields}
-use Rattle.cert_words.proofs.Joining.{ArePlain, number_plain}
+use Rattle.text_lines.specs.declared.numbers.LineFault.{LineFault}
+use Rattle.text_lines.specs.declared.numbers.LineFault.TheVariants.{BadLine}
+use Rattle.text_lines.specs.Forms.{number_of, both, made, one_of, two_of, numbers_of, count_of}
+use Rattle.text_lines.proofs.Inverse.{number_takes, number_again}
+use Rattle.text_lines.proofs.Many.{both_ok, one_takes, one_again, two_takes, two_again, numbers_take, numbers_again, same_fields}
+use Rattle.text_lines.proofs.Joining.{ArePlain, number_plain}
 use Rattle.cert_text.specs.declared.cert.GoalText.{GoalText}
 use Rattle.cert_text.specs.declared.cert.GoalText.TheVariants.{Order, Pair, Cover}
 use Rattle.cert_text.specs.HeadLines.{goal_of, goal_fields, goal_line, put_of, put_fields, put_line}

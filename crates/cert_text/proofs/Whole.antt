@@ -10,7 +10,7 @@ use Rattle.ballot_form.specs.declared.outcome.Outcome.{Outcome}
 use Rattle.alteration_model.specs.declared.puts.Put.{Put}
 use Rattle.bound_tree.specs.Plain.{Plain}
 use Rattle.bound_tree.specs.Nodes.{size}
-use Rattle.cert_words.specs.Words.{fields_of, line_of}
+use Rattle.text_lines.specs.Words.{fields_of, line_of}
 use Rattle.cert_text.specs.declared.fault.CertFault.{CertFault}
 use Rattle.cert_text.specs.declared.fault.CertKind.TheVariants.{Tail}
 use Rattle.cert_text.specs.declared.cert.Cert.{Cert}

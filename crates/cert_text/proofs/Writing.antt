@@ -9,7 +9,7 @@ use Rattle.bound_tree.specs.declared.tree.Tree.{Tree}
 use Rattle.bound_tree.specs.declared.tree.Tree.TheVariants as program
 use Rattle.bound_tree.specs.Plain.{plain_of}
 use Rattle.bound_tree.specs.Lines.{SplitInto, BranchBy}
-use Rattle.cert_words.specs.Words.{line_of}
+use Rattle.text_lines.specs.Words.{line_of}
 use Rattle.cert_text.specs.declared.cert.Stop.{Stop}
 use Rattle.cert_text.specs.declared.cert.Stop.TheVariants.{Budget, Depth}
 use Rattle.cert_text.specs.CertText.{line_text, stop_words, tree_text}

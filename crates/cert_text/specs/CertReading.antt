@@ -1,6 +1,6 @@
 -- A certificate, read line by line up to the first fault.
 use Rattle.std.specs.Prelude.{ℕ, ◌==◌, if◌then◌else◌, List, [], length, Option, Some, None, Result, Ok, Err}
-use Rattle.cert_words.specs.Words.{fields_of}
+use Rattle.text_lines.specs.Words.{fields_of}
 use Rattle.alteration_model.specs.declared.puts.Put.{Put}
 use Rattle.cert_text.specs.declared.fault.CertFault.{CertFault}
 use Rattle.cert_text.specs.declared.fault.CertKind.TheVariants.{Tail}

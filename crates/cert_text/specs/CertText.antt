@@ -11,7 +11,7 @@ use Rattle.row_program.specs.declared.Feature.TheVariants.{From, Arc}
 use Rattle.bound_tree.specs.Plain.{Plain}
 use Rattle.bound_tree.specs.Nodes.{size, height}
 use Rattle.bound_tree.specs.Lines.{Line, SplitInto, BranchBy, CutWith, lines_of}
-use Rattle.cert_words.specs.Words.{line_of}
+use Rattle.text_lines.specs.Words.{line_of}
 use Rattle.cert_text.specs.declared.cert.Stop.{Stop}
 use Rattle.cert_text.specs.declared.cert.Stop.TheVariants.{Budget, Depth}
 use Rattle.cert_text.specs.declared.cert.Claim.{Claim}

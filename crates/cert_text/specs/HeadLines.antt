@@ -1,9 +1,9 @@
 -- The lines before a tree, each by its fields.
 use Rattle.std.specs.Prelude.{ℕ, if◌then◌else◌, List, [], ◌∷◌, codes, Result, Ok, Err}
 use Rattle.std.specs.Str.{bytes_eq}
-use Rattle.cert_words.specs.declared.numbers.LineFault.{LineFault}
-use Rattle.cert_words.specs.declared.numbers.LineFault.TheVariants.{BadLine}
-use Rattle.cert_words.specs.Forms.{number_of, both, made, alone, after, one_of, two_of, numbers_of, count_of}
+use Rattle.text_lines.specs.declared.numbers.LineFault.{LineFault}
+use Rattle.text_lines.specs.declared.numbers.LineFault.TheVariants.{BadLine}
+use Rattle.text_lines.specs.Forms.{number_of, both, made, alone, after, one_of, two_of, numbers_of, count_of}
 use Rattle.ballot_form.specs.declared.rule.Rule.{Rule}
 use Rattle.ballot_form.specs.declared.rule.Rule.TheVariants.{Plurality, Borda, Condorcet, Dhondt, Irv}
 use Rattle.ballot_form.specs.declared.outcome.Outcome.{Outcome}

@@ -1,9 +1,9 @@
 -- The lines of a tree.
 use Rattle.std.specs.Prelude.{ℕ, nat_lt, if◌then◌else◌, List, [], ◌∷◌, length, codes, Result, Err}
 use Rattle.std.specs.Str.{bytes_eq}
-use Rattle.cert_words.specs.declared.numbers.LineFault.{LineFault}
-use Rattle.cert_words.specs.declared.numbers.LineFault.TheVariants.{BadLine}
-use Rattle.cert_words.specs.Forms.{number_of, both, made, one_of, two_of, numbers_of}
+use Rattle.text_lines.specs.declared.numbers.LineFault.{LineFault}
+use Rattle.text_lines.specs.declared.numbers.LineFault.TheVariants.{BadLine}
+use Rattle.text_lines.specs.Forms.{number_of, both, made, one_of, two_of, numbers_of}
 use Rattle.row_program.specs.declared.Feature.TheVariants.{From, Arc}
 use Rattle.bound_tree.specs.Lines.{Line, SplitInto, BranchBy, CutWith}
 use Rattle.cert_text.specs.declared.tree_line.TreeLine.{TreeLine}

@@ -1,6 +1,6 @@
 -- A tree, read node by node from its first line on.
 use Rattle.std.specs.Prelude.{ℕ, zero, suc, ◌+◌, ◌==◌, nat_le, if◌then◌else◌, length, Result, Ok, Err}
-use Rattle.cert_words.specs.Words.{fields_of}
+use Rattle.text_lines.specs.Words.{fields_of}
 use Rattle.bound_tree.specs.Plain.{Plain, Split, Branch, Cut, kids_of}
 use Rattle.bound_tree.specs.Lines.{Line, SplitInto, BranchBy, CutWith}
 use Rattle.cert_text.specs.declared.fault.CertFault.{CertFault}

@@ -1,6 +1,6 @@
 // Reading a certificate.
 ghost use Rattle.std.specs.Prelude.{◌≡◌, ◌<◌, ◌≤◌, ◌+◌, ◌^◌, OnOk, IfOk, IfErr, Ok};
-ghost use Rattle.cert_words.specs.Words.{fields_of};
+ghost use Rattle.text_lines.specs.Words.{fields_of};
 ghost use Rattle.cert_text.specs.Reading.{Gives, Answers, form_at, many_at};
 ghost use Rattle.cert_text.specs.HeadLines.{reported_line, goal_line, put_line, puts_of};
 ghost use Rattle.cert_text.specs.CertReading.{turn_at, body_at, cert_at};

@@ -1,13 +1,13 @@
 // The lines at the head of a certificate.
 ghost use Rattle.std.specs.Prelude.{◌≡◌, ◌≤◌, IfOk, OnOk};
-ghost use Rattle.cert_words.specs.Words.{fields_of, ahead};
+ghost use Rattle.text_lines.specs.Words.{fields_of, ahead};
 ghost use Rattle.cert_text.specs.HeadLines.{first_line, rule_of, rule_line, size_line, winner_or_none_of, winner_of, seats_of, reported_line, stop_of, bounds_of, claim_line, puts_of};
 
 use crate::cert::{Claim, Stop};
 use crate::limits::{MOST_BALLOTS, MOST_BUDGET, MOST_CANDIDATE, MOST_CANDIDATES, MOST_SEATS};
 use ballot_form::{Outcome, Rule, SeatList};
-use cert_words::parts::Fields;
-use cert_words::{
+use text_lines::parts::Fields;
+use text_lines::{
     LineFault, both, fields, is_word, next_is, nothing_more, number, one_number, so_many_numbers,
     two_numbers,
 };

@@ -5,7 +5,7 @@
 //! that `read_cert` answers the certificate exactly where the text is in the grammar, and otherwise the first fault with its
 //! line; that `print_cert` writes the text of a certificate within the limits; that one text has one certificate and one
 //! certificate one text. The calls of `lines` add single lines, for other texts that have the same ones. The crate stands on the rules
-//! and outcomes of `ballot_form`, the replacements of `alteration_model`, the trees of `bound_tree` and the lines of `cert_words`.
+//! and outcomes of `ballot_form`, the replacements of `alteration_model`, the trees of `bound_tree` and the lines of `text_lines`.
 #![tactic(auto)]
 
 mod cert;
@@ -26,7 +26,7 @@ mod write;
 
 pub use cert::{Cert, Claim, GoalText, Stop};
 pub use cert_read::read_cert;
-pub use cert_words::{fields, parts};
+pub use text_lines::{fields, parts};
 pub use fault::{CertFault, CertKind};
 pub use laws::a_certificate_has_one_text;
 pub use printable::is_printable;

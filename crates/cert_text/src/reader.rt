@@ -5,7 +5,7 @@ ghost use Rattle.cert_text.specs.Reading.{Gives, line_at, at_line};
 ghost use Rattle.cert_text.specs.declared.fault.ReadError.TheVariants as errors;
 
 use crate::fault::{CertFault, CertKind, ReadError};
-use cert_words::LineFault;
+use text_lines::LineFault;
 
 /// What is left of a text, and the number of its next line, from 1.
 #[derive(Drop)]

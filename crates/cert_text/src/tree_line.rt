@@ -1,15 +1,15 @@
 // The lines of a tree.
 ghost use Rattle.std.specs.Prelude.{◌≡◌, IfOk};
-ghost use Rattle.cert_words.specs.Words.{fields_of, ahead};
-ghost use Rattle.cert_words.specs.Forms.{made};
+ghost use Rattle.text_lines.specs.Words.{fields_of, ahead};
+ghost use Rattle.text_lines.specs.Forms.{made};
 ghost use Rattle.cert_text.specs.TreeLines.{seen, tree_line, split_line, cut_line, branch_line, from_line, arc_line};
 
 use crate::limits::{
     MOST_ENTERED, MOST_KEY, MOST_KIDS, MOST_LEFT, MOST_MULTIPLIER, MOST_MULTIPLIERS, MOST_VALUE,
 };
 use bound_tree::Multipliers;
-use cert_words::parts::Fields;
-use cert_words::{LineFault, any_numbers, both, fields, is_word, number, one_number, two_numbers};
+use text_lines::parts::Fields;
+use text_lines::{LineFault, any_numbers, both, fields, is_word, number, one_number, two_numbers};
 use mov_base::{List, Memory};
 use row_program::Feature;
 use std::alloc::Global;

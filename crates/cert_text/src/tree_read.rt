@@ -9,8 +9,8 @@ use crate::fault::{CertKind, ReadError};
 use crate::reader::{Reader, at_number, fault};
 use crate::tree_line::{TreeLine, read_tree_line};
 use bound_tree::{MOST_NODES, Tree};
+use mov_base::{List, One};
 use std::alloc::Global;
-use tree_owners::{Many, One};
 
 /// A good line of a tree whose first line is `first`.
 #[tactic(auto, unfolding(crate::specs::TreeReading::tree_line_at))]
@@ -80,14 +80,14 @@ fn read_kids(
     first: u32,
     count: u32,
     reader: &mut Reader<'_>,
-) -> Result<Many<Tree>, ReadError>
+) -> Result<List<Tree>, ReadError>
     requires left { left < 2 ^ 16 }
     requires first { first < 2 ^ 21 }
     requires number { reader.old.number ≤ first + 100000 }
     ensures nodes { Gives (λ kids. (map plain_of kids, (reader.new.number, reader.new.rest.now))) result (many_at (node_at left first) count (reader.old.number, reader.old.rest.now)) }
     ensures number { OnOk result (reader.new.number ≤ first + 100000) }
 {
-    let mut kids = Many::new(alloc);
+    let mut kids = List::new(alloc);
     for _ in 0..count {
         let kid = read_node(alloc, left, first, reader)?;
         kids.push(kid)?;

@@ -1,15 +1,15 @@
 // The lines of the goal and of the replacements.
 ghost use Rattle.std.specs.Prelude.{◌≡◌, ℕ, codes, false, IfOk};
 ghost use Rattle.std.specs.Str.{bytes_eq};
-ghost use Rattle.cert_words.specs.Words.{fields_of, ahead};
+ghost use Rattle.text_lines.specs.Words.{fields_of, ahead};
 ghost use Rattle.cert_text.specs.HeadLines.{goal_of, goal_line, put_fields, put_line};
 
 use crate::cert::GoalText;
 use crate::limits::{MOST_BALLOTS, MOST_CANDIDATE};
 use alteration_model::Put;
 use ballot_form::CandList;
-use cert_words::parts::Fields;
-use cert_words::{
+use text_lines::parts::Fields;
+use text_lines::{
     LineFault, any_numbers, both, fields, is_word, next_is, number, one_number, so_many_numbers,
     two_numbers,
 };

@@ -1,11 +1,13 @@
 // The list type of the project.
-ghost use Rattle.std.specs.Prelude.{◌≡◌, [], ◌∷◌, ◌++◌, length, IfOk, OnOk, OnErr};
+ghost use Rattle.std.specs.Prelude.{◌≡◌, [], ◌∷◌, ◌++◌, ◌<◌, length, slice_get, IfOk, OnOk, OnErr};
+ghost use Rattle.std.specs.Borrow.{sem};
+ghost use Rattle.mov_base.specs.Lending.{lends_item};
 
 use crate::{Copies, Memory};
 use std::alloc::Global;
 use std::marker::Model;
 
-/// A `Vec` that contracts see as the list of its items.
+/// A `Vec` that contracts see as the list of its items. A type may hold itself through it.
 #[derive(Debug, Drop)]
 pub struct List<T> {
     items: Vec<T>,
@@ -59,6 +61,15 @@ impl<T> List<T> {
         ensures { result ≡ length self.now }
     {
         self.items.len()
+    }
+
+    /// Lends the item at a place, counted from 0, for writing. What is written there stands at that place, and all else stays.
+    pub fn item_mut(&mut self, place: usize) -> &mut T
+        requires within { place < length self.old }
+        ensures* writes_back { sem 𝓛 (lends_item T.row self.entry place result) }
+        ensures item { slice_get self.old place ≡ Some result.now }
+    {
+        &mut self.items[place]
     }
 }
 

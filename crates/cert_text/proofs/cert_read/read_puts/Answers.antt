@@ -1,6 +1,6 @@
 use Rattle.std.proofs.Common.{◌≡◌, ◌++◌, ◌∷◌, [], ◌+◌, arith}
 use Rattle.std.proofs.lemmas.Result.{err_from_is_err_and}
-use Rattle.cert_words.specs.Words.{fields_of}
+use Rattle.text_lines.specs.Words.{fields_of}
 use Rattle.cert_text.specs.Reading.{form_at, many_at}
 use Rattle.cert_text.specs.HeadLines.{put_line}
 use Rattle.cert_text.proofs.Growing.{goes_on, ends, is_done}

@@ -1,5 +1,5 @@
 use Rattle.std.proofs.Common.{◌≡◌, ◌+◌, ◌-◌}
-use Rattle.cert_words.specs.Words.{fields_of}
+use Rattle.text_lines.specs.Words.{fields_of}
 use Rattle.cert_text.specs.Reading.{form_at, many_at}
 use Rattle.cert_text.specs.HeadLines.{put_line}
 use Rattle.cert_text.proofs.Growing.{with_front}

@@ -1,7 +1,0 @@
-use Rattle.std.proofs.Common.{ap, ◌∙◌}
-use Rattle.std.proofs.lemmas.List.Splits.{join_with_byte-slice_split}
-use Rattle.cert_words.specs.Words.{line_of}
-use Rattle.cert_words.proofs.fields.Goals as goal
-
-pub returns-clause-joined : goal.returns-clause-joined
-returns-clause-joined c = ap line_of c.of_line.ensures.ahead ∙ join_with_byte-slice_split 32 c.args.line.now

@@ -1,0 +1,79 @@
+-- Forms of a line: what its fields give, or what is wrong with it first.
+use Rattle.std.specs.Prelude.{ℕ, ◌==◌, ◌||◌, ◌&&◌, not, nat_lt, nat_le, if◌then◌else◌, List, [], ◌∷◌, ◌++◌, Bool, false, length, slice_index, Result, Ok, Err}
+use Rattle.std.specs.List.{list_all}
+use Rattle.std.specs.Str.{bytes_eq}
+use Rattle.std.specs.Str.Parse.{digits_value}
+use Rattle.text_lines.specs.declared.numbers.LineFault.{LineFault}
+use Rattle.text_lines.specs.declared.numbers.LineFault.TheVariants.{BadLine, BadNumber}
+
+abbrev pub is_digit : ℕ → Bool
+is_digit b = nat_le 48 b && nat_le b 57
+
+-- what stands where a number is wanted is one or more digits
+abbrev pub is_number : List ℕ → Bool
+is_number field = nat_lt 0 (length field) && list_all is_digit field
+
+abbrev pub has_leading_zero : List ℕ → Bool
+has_leading_zero field = nat_lt 1 (length field) && (slice_index field 0 == 48)
+
+-- the number that a field is, from low to high
+abbrev pub number_of : ℕ → ℕ → List ℕ → Result ℕ LineFault
+number_of low high field =
+    if not (is_number field) then Err BadLine
+    else if has_leading_zero field || nat_lt (digits_value 10 field) low || nat_lt high (digits_value 10 field) then Err BadNumber
+    else Ok (digits_value 10 field)
+
+-- two parts of a line: a bad line before a bad number
+abbrev pub both : {A B : Type 0} → Result A LineFault → Result B LineFault → Result (A × B) LineFault
+both (Ok x) (Ok y) = Ok (x, y)
+both (Ok x) (Err e) = Err e
+both (Err e) (Ok y) = Err e
+both (Err BadLine) (Err f) = Err BadLine
+both (Err BadNumber) (Err f) = Err f
+
+-- a value made from what was read
+abbrev pub made : {A B : Type 0} → (A → B) → Result A LineFault → Result B LineFault
+made f (Ok x) = Ok (f x)
+made f (Err e) = Err e
+
+-- a part, where no field is left
+abbrev pub alone : {A : Type 0} → Result A LineFault → List (List ℕ) → Result A LineFault
+alone x [] = x
+alone x (field ∷ fields) = Err BadLine
+
+-- whether the first field is this word, and what stands behind the first field
+abbrev pub begins : List ℕ → List (List ℕ) → Bool
+begins word [] = false
+begins word (field ∷ fields) = bytes_eq field word
+
+abbrev pub behind : List (List ℕ) → List (List ℕ)
+behind [] = []
+behind (field ∷ fields) = fields
+
+-- what stands behind a word
+abbrev pub after : {A : Type 0} → List ℕ → (List (List ℕ) → Result A LineFault) → List (List ℕ) → Result A LineFault
+after word form fields = if begins word fields then form (behind fields) else Err BadLine
+
+-- one number, or two, and then no field
+abbrev pub one_of : ℕ → ℕ → List (List ℕ) → Result ℕ LineFault
+one_of low high [] = Err BadLine
+one_of low high (field ∷ fields) = alone (number_of low high field) fields
+
+abbrev pub two_of : ℕ → ℕ → ℕ → ℕ → List (List ℕ) → Result (ℕ × ℕ) LineFault
+two_of low high low' high' [] = Err BadLine
+two_of low high low' high' (field ∷ fields) = both (number_of low high field) (one_of low' high' fields)
+
+-- any count of numbers
+abbrev pub joined : Result (List ℕ) LineFault → Result (List ℕ) LineFault → Result (List ℕ) LineFault
+joined front rest = made (λ x. x.0 ++ x.1) (both front rest)
+
+abbrev pub single : Result ℕ LineFault → Result (List ℕ) LineFault
+single number = made (λ n. n ∷ []) number
+
+abbrev pub numbers_of : ℕ → ℕ → List (List ℕ) → Result (List ℕ) LineFault
+numbers_of low high [] = Ok []
+numbers_of low high (field ∷ fields) = joined (single (number_of low high field)) (numbers_of low high fields)
+
+-- exactly so many numbers
+abbrev pub count_of : ℕ → ℕ → ℕ → List (List ℕ) → Result (List ℕ) LineFault
+count_of count low high fields = if not (length fields == count) then Err BadLine else numbers_of low high fields

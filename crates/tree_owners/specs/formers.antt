@@ -1,2 +1,0 @@
-pub mod many
-pub mod one
