@@ -11,8 +11,10 @@ ghost use Rattle.std.specs.Int.RustNames.{int_div};
 ghost use Rattle.std.specs.List.{All};
 ghost use Rattle.exact_num.specs.Divisors.{gcd_of, gcd_with, row_gcd, primitive, IsPrimitive};
 
+mod limits;
 mod ratio;
 
+pub use limits::WIDE;
 pub use ratio::Ratio;
 
 /// The greatest common divisor of two numbers. That of 0 and 0 is 0.
@@ -68,12 +70,12 @@ pub fn ceil_div(a: i128, b: i128) -> i128
     if a % b > 0 { quotient + 1 } else { quotient }
 }
 
-/// p x - q y, of numbers of size below 2^63.
+/// p x - q y, of numbers that aren't wide.
 pub fn cross(p: i64, x: i64, q: i64, y: i64) -> i128
-    requires small_p { unsigned_abs p < 2 ^ 63 }
-    requires small_x { unsigned_abs x < 2 ^ 63 }
-    requires small_q { unsigned_abs q < 2 ^ 63 }
-    requires small_y { unsigned_abs y < 2 ^ 63 }
+    requires small_p { unsigned_abs p < WIDE }
+    requires small_x { unsigned_abs x < WIDE }
+    requires small_q { unsigned_abs q < WIDE }
+    requires small_y { unsigned_abs y < WIDE }
     ensures value { result ≡ p *ℤ x -ℤ q *ℤ y }
     ensures small { unsigned_abs result < 2 ^ 127 }
 {
@@ -136,6 +138,3 @@ fn size_part(size: u128, divisor: u128) -> u128
         size / divisor
     }
 }
-
-#[cfg(test)]
-mod tests;

@@ -4,3 +4,5 @@
 
 #[cfg(test)]
 mod base;
+#[cfg(test)]
+mod exact_num;

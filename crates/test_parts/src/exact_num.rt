@@ -1,5 +1,5 @@
 // The calls at numbers that were worked out by hand.
-use super::*;
+use exact_num::{Ratio, ceil_div, cross, gcd, reduce_row};
 use std::cmp::Ordering;
 
 #[test]
