@@ -23,7 +23,7 @@ distinct_from p at last (put ∷ puts) is (suc k) d lt = distinct_from p (at + 1
 pub all_distinct : (p : Poll) (puts : List Put) → IsFirstFault p puts None → All (λ put. AreDistinct put.ballot) puts
 all_distinct p puts is = distinct_from p 0 0 puts is
 
-alteration_from : (p : Poll) (at last low : ℕ) (puts : List Put) → low ≤ last + 1 → IsFirstFaultFrom p at last puts None → IsAlterationFrom p.c low (length p.rows) (pairs_of puts)
+alteration_from : (p : Poll) (at last low : ℕ) (puts : List Put) → low ≤ last + 1 → IsFirstFaultFrom p at last puts None → IsAlterationFrom p.c low (length p.ballots) (pairs_of puts)
 alteration_from p at last low [] le is = tt
 alteration_from p at last low (put ∷ puts) le is =
     (omega (arith, le, is.0.2), is.0.1, is.0.3, alteration_from p (at + 1) put.number (put.number + 1) puts (omega arith) is.1)
@@ -37,7 +37,7 @@ length_from c low n (change ∷ changes) le is = omega (arith, is.0, is.1, lengt
 
 -- an alteration has at most as many replacements as there are ballots
 pub few : (p : Poll) (puts : List Put) (changes : List (ℕ × List ℕ)) → IsPoll p → IsFirstFault p puts None → changes ≡ pairs_of puts → length changes ≤ 1000000
-few p puts changes poll is e = omega (arith, poll.few, length_from p.c 1 (length p.rows) changes (omega arith) (is_alteration p puts changes is e))
+few p puts changes poll is e = omega (arith, poll.few, length_from p.c 1 (length p.ballots) changes (omega arith) (is_alteration p puts changes is e))
 
 -- ---- one more put
 

@@ -55,9 +55,9 @@ valid_at c i n (change ∷ changes) (suc k) d lt is = valid_at c (change.0 + 1) 
 -- the ballot that is picked is valid
 pub picked_valid : (p : Poll) (changes : List (ℕ × List ℕ)) (next number : ℕ) (row chosen : List ℕ) (later : ℕ) → IsAlteration p changes → IsValidBallot p.c row
     → Picks changes next number row chosen later → IsValidBallot p.c chosen
-picked_valid p changes next number row chosen later is valid (inl t) = rw t.2 (valid_at p.c 1 (length p.rows) changes next (0, []) t.0 is)
+picked_valid p changes next number row chosen later is valid (inl t) = rw t.2 (valid_at p.c 1 (length p.ballots) changes next (0, []) t.0 is)
 picked_valid p changes next number row chosen later is valid (inr k) = rw k.1 valid
 
 -- a list of ballots of so many candidates
-pub same_poll : (q p : Poll) (rows : List (List ℕ)) → q.c ≡ p.c → q.rows ≡ rows → q ≡ record p { rows = rows }
-same_poll q p rows a b = ap (λ c. record { c = c; rows = q.rows }) a ∙ ap (λ r. record { c = p.c; rows = r }) b
+pub same_poll : (q p : Poll) (rows : List (List ℕ)) → q.c ≡ p.c → q.ballots ≡ rows → q ≡ record p { ballots = rows }
+same_poll q p rows a b = ap (λ c. record { c = c; ballots = q.ballots }) a ∙ ap (λ r. record { c = p.c; ballots = r }) b

@@ -8,13 +8,13 @@ use Rattle.alteration_model.specs.declared.puts.Put.{Put}
 -- what is wrong with the put at a place, where the one before has the number `last`: of several faults the first of this list
 abbrev pub IsPutFault : Poll → ℕ → ℕ → Put → Option AlterFault → Type 0
 IsPutFault p at last put None =
-    (1 ≤ put.number) × (put.number ≤ length p.rows) × (last < put.number) × IsValidBallot p.c put.ballot
+    (1 ≤ put.number) × (put.number ≤ length p.ballots) × (last < put.number) × IsValidBallot p.c put.ballot
 IsPutFault p at last put (Some (NumberRange i)) =
-    (i ≡ at) × ((put.number < 1) ⊎ (length p.rows < put.number))
+    (i ≡ at) × ((put.number < 1) ⊎ (length p.ballots < put.number))
 IsPutFault p at last put (Some (NotAscending i)) =
-    (i ≡ at) × (1 ≤ put.number) × (put.number ≤ length p.rows) × (put.number ≤ last)
+    (i ≡ at) × (1 ≤ put.number) × (put.number ≤ length p.ballots) × (put.number ≤ last)
 IsPutFault p at last put (Some (BadBallot i)) =
-    (i ≡ at) × (1 ≤ put.number) × (put.number ≤ length p.rows) × (last < put.number) × (IsValidBallot p.c put.ballot → ⊥)
+    (i ≡ at) × (1 ≤ put.number) × (put.number ≤ length p.ballots) × (last < put.number) × (IsValidBallot p.c put.ballot → ⊥)
 IsPutFault p at last put (Some Memory) = ⊥
 
 -- the fault of the first put that has one, where the first put stands at a place and the one before it has the number `last`

@@ -45,8 +45,8 @@ fn pick<'a>(
 /// Adds one ballot to a roll that isn't full.
 fn push_one(roll: &mut Roll, row: &[Cand]) -> Result<(), Memory>
     requires valid { IsValidBallot roll.old.c row.now }
-    requires room { length roll.old.rows < 1000000 }
-    ensures ok { OnOk result (roll.new ≡ record roll.old { rows = roll.old.rows ++ row.now ∷ [] }) }
+    requires room { length roll.old.ballots < 1000000 }
+    ensures ok { OnOk result (roll.new ≡ record roll.old { ballots = roll.old.ballots ++ row.now ∷ [] }) }
     ensures err { OnErr result (roll.new ≡ roll.old) }
 {
     match roll.push_times(row, 1) {

@@ -121,7 +121,7 @@ runs_have_cells names [] = All-nil HasCells
 runs_have_cells names (run ∷ runs) = All-cons HasCells (record_of names run) (map (record_of names) runs) refl (runs_have_cells names runs)
 
 have_cells : (k : NamedPoll) → All HasCells (plain_records k)
-have_cells k = All-cons HasCells (codes "ballots" ∷ k.names) (run_records k.names k.poll.rows) refl (runs_have_cells k.names (runs_of k.poll.rows))
+have_cells k = All-cons HasCells (codes "ballots" ∷ k.names) (run_records k.names k.poll.ballots) refl (runs_have_cells k.names (runs_of k.poll.ballots))
 
 -- the plain form begins with no mark
 no_mark : (names : List (List ℕ)) (rows : List (List (List ℕ)))
@@ -137,9 +137,9 @@ head_good names some few filled good =
     rw (filled, one, fits) good
 
 records_read : (k : NamedPoll) → head_fault (codes "ballots" ∷ k.names) ≡ None → names_of (codes "ballots" ∷ k.names) ≡ k.names → length k.names ≡ k.poll.c
-    → Writable k.names 0 (runs_of k.poll.rows) → read_records (plain_records k) ≡ Ok k
+    → Writable k.names 0 (runs_of k.poll.ballots) → read_records (plain_records k) ≡ Ok k
 records_read k good same one runs =
-    rw (good, same, rows_good k.names 2 0 (runs_of k.poll.rows) runs, rows_back k.names 0 (runs_of k.poll.rows) runs, runs_back k.poll.rows, one) refl
+    rw (good, same, rows_good k.names 2 0 (runs_of k.poll.ballots) runs, rows_back k.names 0 (runs_of k.poll.ballots) runs, runs_back k.poll.ballots, one) refl
 
 -- the plain form of distinct and admitted names and a poll of theirs is read as them
 pub read_plain : (k : NamedPoll) → length k.names ≡ k.poll.c → AllPairs (λ a b. a ≢ b) k.names → All (λ name. is_name name ≡ true) k.names → IsPoll k.poll
@@ -151,8 +151,8 @@ read_plain k one apart good poll =
     let none = no_fault [] k.names good apart in
     let head = head_good k.names (omega (arith, one, poll.some)) (omega (arith, one, poll.most)) filled none in
     let same : names_of (codes "ballots" ∷ k.names) ≡ k.names = rw filled refl in
-    let size = ap length (runs_back k.poll.rows) in
-    let each = λ (i : ℕ) (d : List ℕ) (within : i < length k.poll.rows). readable k.names k.poll.c (get_or k.poll.rows i d) one good apart (poll.valid i d within) in
-    let runs = writable k.names 0 (runs_of k.poll.rows) (runs_readable k.names k.poll.rows each) (omega (arith, size, poll.few)) in
-    ap (λ t. read_records (records default_config t)) (no_mark k.names (run_records k.names k.poll.rows))
+    let size = ap length (runs_back k.poll.ballots) in
+    let each = λ (i : ℕ) (d : List ℕ) (within : i < length k.poll.ballots). readable k.names k.poll.c (get_or k.poll.ballots i d) one good apart (poll.valid i d within) in
+    let runs = writable k.names 0 (runs_of k.poll.ballots) (runs_readable k.names k.poll.ballots each) (omega (arith, size, poll.few)) in
+    ap (λ t. read_records (records default_config t)) (no_mark k.names (run_records k.names k.poll.ballots))
     ∙ ap read_records (records_back (plain_records k) (have_cells k)) ∙ records_read k head same one runs

@@ -38,7 +38,7 @@ first_fault head rest = or_after (head_fault head) 1 (rows_fault (names_of head)
 
 -- the names of a head, and the ballots that the records below it add
 abbrev pub contest_of : List (List ℕ) → List (List (List ℕ)) → NamedPoll
-contest_of head rest = record { names = names_of head; poll = record { c = length (names_of head); rows = flat_map (ballots_of (names_of head)) rest } }
+contest_of head rest = record { names = names_of head; poll = record { c = length (names_of head); ballots = flat_map (ballots_of (names_of head)) rest } }
 
 -- a contest, if nothing is wrong
 abbrev pub unless_fault : Option BallotFault → NamedPoll → Result NamedPoll BallotFault

@@ -38,7 +38,7 @@ run_records names ballots = map (record_of names) (runs_of ballots)
 
 -- the records of the plain form: the head, and one for each run
 abbrev pub plain_records : NamedPoll → List (List (List ℕ))
-plain_records k = (codes "ballots" ∷ k.names) ∷ run_records k.names k.poll.rows
+plain_records k = (codes "ballots" ∷ k.names) ∷ run_records k.names k.poll.ballots
 
 -- the bytes of the plain form
 abbrev pub plain_form : NamedPoll → List ℕ

@@ -63,10 +63,10 @@ fn read_rows(
 ) -> Result<(), BallotFault>
     requires names { length names.now ≡ roll.old.c }
     requires few { length records.old < 2 ^ 63 }
-    ensures good { OnOk result (file.rows_fault names.now 2 (length roll.old.rows) records.old ≡ None) }
-    ensures rows { OnOk result (roll.new.rows ≡ roll.old.rows ++ flat_map (ballots_of names.now) records.old) }
+    ensures good { OnOk result (file.rows_fault names.now 2 (length roll.old.ballots) records.old ≡ None) }
+    ensures rows { OnOk result (roll.new.ballots ≡ roll.old.ballots ++ flat_map (ballots_of names.now) records.old) }
     ensures names { OnOk result (roll.new.c ≡ roll.old.c) }
-    ensures err { IfErr result (λ fault. OrMemory fault.kind (file.rows_fault names.now 2 (length roll.old.rows) records.old ≡ Some fault)) }
+    ensures err { IfErr result (λ fault. OrMemory fault.kind (file.rows_fault names.now 2 (length roll.old.ballots) records.old ≡ Some fault)) }
 {
     let mut row = ByteRecord::new(alloc);
     let mut at = 2u64;

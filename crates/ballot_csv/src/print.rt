@@ -43,7 +43,7 @@ fn write_runs(
     row: &mut ByteRecord,
     text: &mut PlainText,
 ) -> Result<(), Memory>
-    ensures { OnOk result (text.new ≡ text.old ++ text_of_rows (run_records contest.now.names contest.now.roll.rows)) }
+    ensures { OnOk result (text.new ≡ text.old ++ text_of_rows (run_records contest.now.names contest.now.roll.ballots)) }
 {
     let mut start = 0;
     while start < contest.roll.len() {
@@ -57,10 +57,10 @@ fn write_runs(
 
 /// How many equal ballots stand together from the one with the number `start + 1` on.
 fn run_len(roll: &Roll, start: u32) -> u32
-    requires { start < length roll.now.rows }
+    requires { start < length roll.now.ballots }
     ensures some { 0 < result }
-    ensures within { start + result ≤ length roll.now.rows }
-    ensures run { IfSome (slice_get roll.now.rows start) (λ ballot. runs_of (drop start roll.now.rows) ≡ (result, ballot) ∷ runs_of (drop (start + result) roll.now.rows)) }
+    ensures within { start + result ≤ length roll.now.ballots }
+    ensures run { IfSome (slice_get roll.now.ballots start) (λ ballot. runs_of (drop start roll.now.ballots) ≡ (result, ballot) ∷ runs_of (drop (start + result) roll.now.ballots)) }
 {
     let len = roll.len();
     let ballot = roll.row(start);
@@ -80,8 +80,8 @@ fn run_row(
     count: u32,
     row: &mut ByteRecord,
 ) -> Result<(), Memory>
-    requires { start < length contest.now.roll.rows }
-    ensures { OnOk result (IfSome (slice_get contest.now.roll.rows start) (λ ballot. fields_of row.new ≡ record_of contest.now.names (count, ballot))) }
+    requires { start < length contest.now.roll.ballots }
+    ensures { OnOk result (IfSome (slice_get contest.now.roll.ballots start) (λ ballot. fields_of row.new ≡ record_of contest.now.names (count, ballot))) }
 {
     let ballot = contest.roll.row(start);
     fill_row(alloc, contest.names.as_slice(), count, ballot, row)

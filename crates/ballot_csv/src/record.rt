@@ -22,9 +22,9 @@ pub(crate) fn add_record(
     roll: &mut Roll,
 ) -> Result<(), BallotKind>
     requires { length names.now ≡ roll.old.c }
-    ensures fault { OnOk result (record_fault names.now (length roll.old.rows) (fields_of row.now) ≡ None) }
-    ensures rows { OnOk result (roll.new ≡ record roll.old { rows = roll.old.rows ++ ballots_of names.now (fields_of row.now) }) }
-    ensures err { IfErr result (λ kind. OrMemory kind (record_fault names.now (length roll.old.rows) (fields_of row.now) ≡ Some kind)) }
+    ensures fault { OnOk result (record_fault names.now (length roll.old.ballots) (fields_of row.now) ≡ None) }
+    ensures rows { OnOk result (roll.new ≡ record roll.old { ballots = roll.old.ballots ++ ballots_of names.now (fields_of row.now) }) }
+    ensures err { IfErr result (λ kind. OrMemory kind (record_fault names.now (length roll.old.ballots) (fields_of row.now) ≡ Some kind)) }
 {
     if is_passed(row) {
         return Ok(());

@@ -10,15 +10,15 @@ IsAlterationFrom c i n (change ∷ changes) =
 
 -- an alteration of a list of ballots, which have the numbers from 1 to its length
 abbrev pub IsAlteration : Poll → List (ℕ × List ℕ) → Type 0
-IsAlteration p changes = IsAlterationFrom p.c 1 (length p.rows) changes
+IsAlteration p changes = IsAlterationFrom p.c 1 (length p.ballots) changes
 
 -- the ballots, of which the first has the number i, with each one replaced that a change names
 abbrev pub after_from : ℕ → List (List ℕ) → List (ℕ × List ℕ) → List (List ℕ)
 after_from i [] changes = []
-after_from i (row ∷ rows) [] = row ∷ rows
-after_from i (row ∷ rows) (change ∷ changes) =
-    if change.0 == i then change.1 ∷ after_from (i + 1) rows changes else row ∷ after_from (i + 1) rows (change ∷ changes)
+after_from i (ballot ∷ ballots) [] = ballot ∷ ballots
+after_from i (ballot ∷ ballots) (change ∷ changes) =
+    if change.0 == i then change.1 ∷ after_from (i + 1) ballots changes else ballot ∷ after_from (i + 1) ballots (change ∷ changes)
 
 -- the ballots after an alteration
 abbrev pub after : Poll → List (ℕ × List ℕ) → Poll
-after p changes = record p { rows = after_from 1 p.rows changes }
+after p changes = record p { ballots = after_from 1 p.ballots changes }

@@ -6,6 +6,8 @@
 #![tactic(auto)]
 
 mod contest;
+mod firsts;
+mod limits;
 mod outcome;
 mod ranking;
 mod roll;
@@ -15,12 +17,14 @@ mod text;
 mod valid;
 
 pub use contest::Contest;
+pub use firsts::first_counts;
+pub use limits::{LONGEST_NAME, MOST_BALLOTS, MOST_CANDIDATES, MOST_SEATS};
 use mov_base::List;
 pub use outcome::Outcome;
 pub use ranking::Ranking;
-pub use roll::{MOST_BALLOTS, MOST_CANDIDATES, PushFault, Roll};
+pub use roll::{PushFault, Roll};
 pub use rows::Rows;
-pub use rule::Rule;
+pub use rule::{Rule, RuleName};
 pub use text::{Names, Text};
 pub use valid::valid_row;
 
@@ -35,6 +39,3 @@ pub type ScoreList = List<u64>;
 
 /// A number of seats for each candidate.
 pub type SeatList = List<u16>;
-
-#[cfg(test)]
-mod tests;

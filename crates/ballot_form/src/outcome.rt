@@ -1,5 +1,5 @@
 // The outcome of an election.
-ghost use Rattle.std.specs.Prelude.{◌≡◌, IfOk};
+ghost use Rattle.std.specs.Prelude.{◌≡◌, ◌↔◌, IfOk, IsTrue};
 
 use crate::{Cand, SeatList};
 use mov_base::{Copies, Memory};
@@ -25,6 +25,21 @@ impl Outcome {
             Outcome::Winner(x) => Ok(Outcome::Winner(*x)),
             Outcome::NoWinner => Ok(Outcome::NoWinner),
             Outcome::Seats(seats) => Ok(Outcome::Seats(seats.copy()?)),
+        }
+    }
+}
+
+impl Outcome {
+    /// Whether the outcomes are equal.
+    pub fn equals(&self, other: &Outcome) -> bool
+        ensures { IsTrue result ↔ (self.now ≡ other.now) }
+    {
+        match (self, other) {
+            (Outcome::Winner(x), Outcome::Winner(y)) => *x == *y,
+            (Outcome::NoWinner, Outcome::NoWinner) => true,
+            (Outcome::Seats(seats), Outcome::Seats(others)) => seats.as_slice()
+                == others.as_slice(),
+            _ => false,
         }
     }
 }

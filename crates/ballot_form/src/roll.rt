@@ -4,16 +4,10 @@ ghost use Rattle.ballot_form.specs.Ballots.{AreDistinct, IsPoll, IsValidBallot};
 ghost use Rattle.ballot_form.specs.Scores.{first_of};
 ghost use Rattle.ballot_form.specs.declared.roll.PushFault.TheVariants.{Memory};
 
-use crate::{Cand, Ranking, Rows};
+use crate::{Cand, MOST_BALLOTS, MOST_CANDIDATES, Ranking, Rows};
 use mov_base::Memory;
 use std::alloc::Global;
 use std::marker::Model;
-
-/// The most ballots that a roll has.
-pub const MOST_BALLOTS: usize = 1_000_000;
-
-/// The most candidates that a contest has.
-pub const MOST_CANDIDATES: usize = 12;
 
 /// Why ballots were not taken.
 #[derive(Debug, Drop)]
@@ -44,17 +38,17 @@ impl Model for Roll {
 
     ghost Value = { Poll };
 
-    ghost view = { λ r. record { c = r.candidates; rows = r.ballots.items } };
+    ghost view = { λ r. record { c = r.candidates; ballots = r.ballots.items } };
 
-    ghost invariant = { λ r. IsPoll (record { c = r.candidates; rows = r.ballots.items }) };
+    ghost invariant = { λ r. IsPoll (record { c = r.candidates; ballots = r.ballots.items }) };
 }
 
 impl Roll {
     /// The roll without ballots of a contest of `c` candidates. It takes no memory.
     pub fn new(alloc: Global, c: u8) -> Roll
         requires some { 1 ≤ c }
-        requires most { c ≤ 12 }
-        ensures { result ≡ record { c = c; rows = [] } }
+        requires most { c ≤ MOST_CANDIDATES }
+        ensures { result ≡ record { c = c; ballots = [] } }
     {
         Roll {
             candidates: c,
@@ -72,25 +66,27 @@ impl Roll {
 
     /// How many ballots the roll has.
     pub fn len(&self) -> u32
-        ensures value { result ≡ length self.now.rows }
-        ensures few { result ≤ 1000000 }
+        ensures value { result ≡ length self.now.ballots }
+        ensures few { result ≤ MOST_BALLOTS }
+        ensures poll { IsPoll self.now }
     {
         self.ballots.len() as u32
     }
 
     /// Lends the ballot with the number `i + 1`.
     pub fn row(&self, i: u32) -> &[Cand]
-        requires { i < length self.now.rows }
-        ensures value { slice_get self.now.rows i ≡ Some result.now }
+        requires { i < length self.now.ballots }
+        ensures value { slice_get self.now.ballots i ≡ Some result.now }
         ensures valid { IsValidBallot self.now.c result.now }
+        ensures poll { IsPoll self.now }
     {
         self.ballots[i as usize].as_slice()
     }
 
     /// The first candidate on the ballot with the number `i + 1`, and none exactly where that ballot is blank.
     pub fn first(&self, i: u32) -> Option<Cand>
-        requires { i < length self.now.rows }
-        ensures value { IfSome (slice_get self.now.rows i) (λ row. result ≡ first_of row) }
+        requires { i < length self.now.ballots }
+        ensures value { IfSome (slice_get self.now.ballots i) (λ row. result ≡ first_of row) }
         ensures below { IfSome result (λ x. x < self.now.c) }
     {
         self.row(i).first().copied()
@@ -98,7 +94,8 @@ impl Roll {
 
     /// The ballots in order.
     pub fn rows(&self) -> Rows<'_>
-        ensures { result ≡ self.now.rows }
+        ensures value { result ≡ self.now.ballots }
+        ensures poll { IsPoll self.now }
     {
         Rows::of(self.ballots.as_slice())
     }
@@ -106,11 +103,11 @@ impl Roll {
     /// Adds `count` equal ballots at the end.
     pub fn push_times(&mut self, row: &[Cand], count: u32) -> Result<(), PushFault>
         requires { IsValidBallot self.old.c row.now }
-        ensures ok { OnOk result (self.new ≡ record self.old { rows = self.old.rows ++ replicate count row.now }) }
-        ensures too_many { IsErrOf result PushFault.TooMany ↔ (1000000 < length self.old.rows + count) }
+        ensures ok { OnOk result (self.new ≡ record self.old { ballots = self.old.ballots ++ replicate count row.now }) }
+        ensures too_many { IsErrOf result PushFault.TooMany ↔ (MOST_BALLOTS < length self.old.ballots + count) }
         ensures err { OnErr result (self.new ≡ self.old) }
     {
-        if count as usize > MOST_BALLOTS - self.ballots.len() {
+        if count > MOST_BALLOTS - self.ballots.len() as u32 {
             return Err(PushFault::TooMany);
         }
         let alloc = *self.ballots.allocator();

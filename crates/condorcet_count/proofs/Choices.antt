@@ -40,13 +40,13 @@ outcome_alike c f g (Some x) alike is = chosen_alike c f g x alike is
 outcome_alike c f g None alike is = λ x other. is x (chosen_alike c g f x (λ a b ac bc. sym (alike a b ac bc)) other)
 
 -- the outcome of a roll by its counts
-pub of_roll : (p : Poll) (t : Table) (o : Option ℕ) → ArePrefs p t → IsReportedOutcome t.c (count_in t) o → IsReportedOutcome p.c (pref_of p.rows) o
+pub of_roll : (p : Poll) (t : Table) (o : Option ℕ) → ArePrefs p t → IsReportedOutcome t.c (count_in t) o → IsReportedOutcome p.c (pref_of p.ballots) o
 of_roll p t o are is =
     let here : IsReportedOutcome p.c (count_in t) o = rw (← are.candidates) is in
-    outcome_alike p.c (count_in t) (pref_of p.rows) o are.each here
+    outcome_alike p.c (count_in t) (pref_of p.ballots) o are.each here
 
-pub admitted_of_roll : (p : Poll) (t : Table) (o : Option ℕ) → ArePrefs p t → IsReportedOutcome t.c (count_in t) o → IsAdmittedOutcome p.c (pref_of p.rows) o
-admitted_of_roll p t o are is = admitted p.c (pref_of p.rows) o (of_roll p t o are is)
+pub admitted_of_roll : (p : Poll) (t : Table) (o : Option ℕ) → ArePrefs p t → IsReportedOutcome t.c (count_in t) o → IsAdmittedOutcome p.c (pref_of p.ballots) o
+admitted_of_roll p t o are is = admitted p.c (pref_of p.ballots) o (of_roll p t o are is)
 
 -- there is no outcome exactly where nobody is chosen in all pairs
 pub none_exactly : (c : ℕ) (s : ℕ → ℕ → Bool) (o : Option ℕ) → IsOutcomeOf c s o → IsNone o ↔ ((x : ℕ) → IsChosenInAll c s x → ⊥)

@@ -39,11 +39,11 @@ pub least_of_behind : (c n : ℕ) (rows : List (List ℕ)) (counts : List ℕ) �
 least_of_behind c n rows counts same are x y xc yc =
     rw same (omega (arith, are x y (omega arith) (omega arith), are x x (omega arith) (omega arith), behind_least rows x y))
 
-pub prefs_of_behind : (p : Poll) (c : ℕ) (old new : List ℕ) → c ≡ p.c → AreBehind p.c p.rows old
+pub prefs_of_behind : (p : Poll) (c : ℕ) (old new : List ℕ) → c ≡ p.c → AreBehind p.c p.ballots old
     → ((x y : ℕ) → x < c → y < c → count_at c new x y ≡ count_at c old x x - count_at c old x y) → ArePrefs p (record { c = p.c; counts = new })
 prefs_of_behind p c old new same are set = record {
   candidates = refl;
   each = λ x y xc yc.
       let here = rw same at (set x y (omega arith) (omega arith)) in
-      omega (arith, here, are x y xc yc, are x x xc xc, behind_rest p.rows x y);
+      omega (arith, here, are x y xc yc, are x x xc xc, behind_rest p.ballots x y);
 }

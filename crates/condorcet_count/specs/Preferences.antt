@@ -33,4 +33,4 @@ count_in t x y = count_at t.c t.counts x y
 -- for each two candidates the table has how many ballots prefer the first to the second
 pub record ArePrefs (p : Poll) (t : Table) : Type 0 where
   pub candidates : t.c ≡ p.c
-  pub each : (x y : ℕ) → x < p.c → y < p.c → count_in t x y ≡ pref_of p.rows x y
+  pub each : (x y : ℕ) → x < p.c → y < p.c → count_in t x y ≡ pref_of p.ballots x y

@@ -12,7 +12,7 @@ use ballot_form::{Cand, Roll};
 pub(crate) fn count_ballots(roll: &Roll, counts: &mut [u32])
     requires square { length counts.old ≡ roll.now.c * roll.now.c }
     requires none { EachIndex counts.old (λ k. slice_index counts.old k ≡ 0) }
-    ensures { (x y : ℕ) → x < roll.now.c → y < roll.now.c → count_at roll.now.c counts.new x y ≡ behind_count roll.now.rows x y }
+    ensures { (x y : ℕ) → x < roll.now.c → y < roll.now.c → count_at roll.now.c counts.new x y ≡ behind_count roll.now.ballots x y }
 {
     let c = roll.candidates();
     for i in 0..roll.len() {

@@ -14,8 +14,8 @@ pub fn condorcet_outcome(matrix: &Matrix) -> Option<Cand>
     ensures none { IsNone result ↔ ((x : ℕ) → IsChosenInAll matrix.now.c (ties_to_lower (count_in matrix.now)) x → ⊥) }
     ensures admitted { IsAdmittedOutcome matrix.now.c (count_in matrix.now) result }
     // The same of each roll that has these counts.
-    ensures reported_of_roll { (p : Poll) → ArePrefs p matrix.now → IsReportedOutcome p.c (pref_of p.rows) result }
-    ensures admitted_of_roll { (p : Poll) → ArePrefs p matrix.now → IsAdmittedOutcome p.c (pref_of p.rows) result }
+    ensures reported_of_roll { (p : Poll) → ArePrefs p matrix.now → IsReportedOutcome p.c (pref_of p.ballots) result }
+    ensures admitted_of_roll { (p : Poll) → ArePrefs p matrix.now → IsAdmittedOutcome p.c (pref_of p.ballots) result }
 {
     chosen_in_all(matrix)
 }

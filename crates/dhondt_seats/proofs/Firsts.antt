@@ -18,10 +18,10 @@ first_more rows i first a within is =
     rw same (count_by_at (λ row. is_first row a) rows i [] (is_first (get_or rows i []) a) within (ap (λ row. is_first row a) cc))
 
 -- all ballots are counted
-pub are_votes : (p : Poll) (votes : List ℕ) (i : ℕ) → length votes ≡ p.c → length p.rows ≤ i → ((a : ℕ) → a < length votes → get_or votes a 0 ≡ first_count (take i p.rows) a)
+pub are_votes : (p : Poll) (votes : List ℕ) (i : ℕ) → length votes ≡ p.c → length p.ballots ≤ i → ((a : ℕ) → a < length votes → get_or votes a 0 ≡ first_count (take i p.ballots) a)
     → votes ≡ votes_of p
 are_votes p votes i long all each =
-    fill_by_all (λ a. first_count p.rows a) votes p.c 0 long (λ a lt. each a (omega arith) ∙ ap (λ rows. first_count rows a) (take_all i p.rows all))
+    fill_by_all (λ a. first_count p.ballots a) votes p.c 0 long (λ a lt. each a (omega arith) ∙ ap (λ rows. first_count rows a) (take_all i p.ballots all))
 
 -- a bound on each place, at every default
 pub all_few : (xs : List ℕ) (m : ℕ) → ((a : ℕ) → a < length xs → get_or xs a 0 ≤ m) → (k d : ℕ) → k < length xs → get_or xs k d ≤ m

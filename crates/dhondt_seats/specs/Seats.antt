@@ -9,7 +9,7 @@ use Rattle.ballot_form.specs.Scores.{first_count}
 
 -- the votes of each party: how many ballots put it first
 abbrev pub votes_of : Poll → List ℕ
-votes_of p = map (λ a. first_count p.rows a) (range_with_len 0 p.c)
+votes_of p = map (λ a. first_count p.ballots a) (range_with_len 0 p.c)
 
 -- party b's quotient at place r comes before party a's at place q: it is higher, or it is equal and of a lower-numbered party, or
 -- of the same party at an earlier place

@@ -106,21 +106,21 @@ lone_one c g l reported differ = let a = first_alone g in let b = other_alone g 
 
 -- under plurality the gain of each ballot
 plurality_gains : (p : Poll) (reported : Outcome) (g l m : ℕ) → IsPoll p → g < p.c → g ≢ l
-    → AreGains p.c (m ∷ []) (kept_row p.rows (pair_weight Plurality p.c reported g l) ∷ []) p.rows (map (λ key. m * (1025 - key)) (keys_under Plurality p.c reported (Pair g l) p.rows))
+    → AreGains p.c (m ∷ []) (kept_row p.ballots (pair_weight Plurality p.c reported g l) ∷ []) p.ballots (map (λ key. m * (1025 - key)) (keys_under Plurality p.c reported (Pair g l) p.ballots))
 plurality_gains p reported g l m poll below differ =
-    pair_gains p.c 1 m g (λ row. plurality_points row g) (λ row. plurality_points row l) p.rows p.rows (λ row ok. points_le (is_first row g) (is_first row l)) (λ row. points_few (is_first row l))
+    pair_gains p.c 1 m g (λ row. plurality_points row g) (λ row. plurality_points row l) p.ballots p.ballots (λ row ok. points_le (is_first row g) (is_first row l)) (λ row. points_few (is_first row l))
     (let a = first_alone g in let b = other_alone g l differ in omega (arith, a, b)) (alone_valid p.c g below) poll.valid
 
 -- the test of a pair with one multiplier
-one_pair : (p : Poll) (reported : Outcome) (g l m t : ℕ) → IsPoll p → g < p.c → g ≢ l → t ≤ length p.rows + 1
-    → CutsAt (pos m *ℤ sum_z (pair_weight Plurality p.c reported g l) p.rows) (map (λ key. m * (1025 - key)) (keys_under Plurality p.c reported (Pair g l) p.rows)) t
+one_pair : (p : Poll) (reported : Outcome) (g l m t : ℕ) → IsPoll p → g < p.c → g ≢ l → t ≤ length p.ballots + 1
+    → CutsAt (pos m *ℤ sum_z (pair_weight Plurality p.c reported g l) p.ballots) (map (λ key. m * (1025 - key)) (keys_under Plurality p.c reported (Pair g l) p.ballots)) t
     ↔ Cuts Plurality p reported (Pair g l) [] (m ∷ []) t
 one_pair p reported g l m t poll below differ within =
     let w = pair_weight Plurality p.c reported g l in
-    let gains = map (λ key. m * (1025 - key)) (keys_under Plurality p.c reported (Pair g l) p.rows) in
-    let e : min t (length p.rows + 1) ≡ t = omega arith in
-    subst (λ u. CutsAt (pos m *ℤ sum_z w p.rows) gains t ↔ CutsKept p.c p.rows (kept_row p.rows w ∷ []) (m ∷ []) u) (sym e)
-    (at_kept p.c p.rows (kept_row p.rows w ∷ []) (m ∷ []) (pos m *ℤ sum_z w p.rows) gains t (plurality_gains p reported g l m poll below differ) (omega (arith, ints)))
+    let gains = map (λ key. m * (1025 - key)) (keys_under Plurality p.c reported (Pair g l) p.ballots) in
+    let e : min t (length p.ballots + 1) ≡ t = omega arith in
+    subst (λ u. CutsAt (pos m *ℤ sum_z w p.ballots) gains t ↔ CutsKept p.c p.ballots (kept_row p.ballots w ∷ []) (m ∷ []) u) (sym e)
+    (at_kept p.c p.ballots (kept_row p.ballots w ∷ []) (m ∷ []) (pos m *ℤ sum_z w p.ballots) gains t (plurality_gains p reported g l m poll below differ) (omega (arith, ints)))
 
 -- ---- nodes
 none_of : (goal : Goal) (limit : Limit) → IsFeatureOf goal limit.feature → ⊥
@@ -139,7 +139,7 @@ one_item (x ∷ y ∷ xs) is = absurd (omega arith)
 -- what the test of a pair comes down to
 abbrev pub PairTest : Rule → Poll → Outcome → Goal → ℤ → List ℤ → List Limit → List ℕ → ℕ → Type 0
 PairTest rule p reported goal lone sums limits ls t =
-    CutsAt (pos (get_or ls 0 0) *ℤ get_or sums 0 (pos 0)) (map (gain_under lone (get_or ls 0 0)) (keys_under rule p.c reported goal p.rows)) t ↔ Cuts rule p reported goal limits ls t
+    CutsAt (pos (get_or ls 0 0) *ℤ get_or sums 0 (pos 0)) (map (gain_under lone (get_or ls 0 0)) (keys_under rule p.c reported goal p.ballots)) t ↔ Cuts rule p reported goal limits ls t
 
 plain_pair : (p : Poll) (reported : Outcome) (g l : ℕ) (classes : List (ℕ × ℕ)) (sums : List ℤ) (ballots : ℕ) (lone : ℤ) (limits : List Limit) (ls : List ℕ) (t : ℕ) → IsPoll p → IsGoalOf p.c (Pair g l)
     → IsGroundOf Plurality p reported (Pair g l) classes sums ballots lone → limits ≡ [] → length ls ≡ length sums + length limits → t ≤ ballots + 1
@@ -153,10 +153,10 @@ plain_pair p reported g l classes sums ballots lone limits ls t poll of values n
     let base = ap (λ (xs : List ℤ). get_or xs 0 (pos 0)) values.sums_are in
     let alone : lone ≡ pos 1 = values.lone_is ∙ lone_one p.c g l reported of.2 in
     let core = one_pair p reported g l m t poll of.0 of.2 (omega (arith, within, values.ballots_are)) in
-    subst (λ z. CutsAt (pos m *ℤ z) (map (gain_under lone m) (keys_under Plurality p.c reported (Pair g l) p.rows)) t ↔ Cuts Plurality p reported (Pair g l) limits ls t) (sym base)
-    (subst (λ z. CutsAt (pos m *ℤ sum_z w p.rows) (map (gain_under z m) (keys_under Plurality p.c reported (Pair g l) p.rows)) t ↔ Cuts Plurality p reported (Pair g l) limits ls t) (sym alone)
-    (subst (λ xs. CutsAt (pos m *ℤ sum_z w p.rows) (map (gain_under (pos 1) m) (keys_under Plurality p.c reported (Pair g l) p.rows)) t ↔ Cuts Plurality p reported (Pair g l) xs ls t) (sym none)
-    (subst (λ xs. CutsAt (pos m *ℤ sum_z w p.rows) (map (gain_under (pos 1) m) (keys_under Plurality p.c reported (Pair g l) p.rows)) t ↔ Cuts Plurality p reported (Pair g l) [] xs t) (sym one) core)))
+    subst (λ z. CutsAt (pos m *ℤ z) (map (gain_under lone m) (keys_under Plurality p.c reported (Pair g l) p.ballots)) t ↔ Cuts Plurality p reported (Pair g l) limits ls t) (sym base)
+    (subst (λ z. CutsAt (pos m *ℤ sum_z w p.ballots) (map (gain_under z m) (keys_under Plurality p.c reported (Pair g l) p.ballots)) t ↔ Cuts Plurality p reported (Pair g l) limits ls t) (sym alone)
+    (subst (λ xs. CutsAt (pos m *ℤ sum_z w p.ballots) (map (gain_under (pos 1) m) (keys_under Plurality p.c reported (Pair g l) p.ballots)) t ↔ Cuts Plurality p reported (Pair g l) xs ls t) (sym none)
+    (subst (λ xs. CutsAt (pos m *ℤ sum_z w p.ballots) (map (gain_under (pos 1) m) (keys_under Plurality p.c reported (Pair g l) p.ballots)) t ↔ Cuts Plurality p reported (Pair g l) [] xs t) (sym one) core)))
 
 -- what is known of the node, with its rule and its goal named
 pub named : (rule : Rule) (p : Poll) (reported : Outcome) (node : Ground) (g l : ℕ) → IsNodeOf rule p reported node → node.goal ≡ Pair g l
@@ -176,11 +176,11 @@ pair_exact rule p reported node limits ls g l t is are goal_is within =
     (subst (λ goal. PairTest Plurality p reported goal node.lone node.sums limits ls t) (sym goal_is)
     (plain_pair p reported g l node.classes node.sums node.ballots node.lone limits ls t is.poll n.0 n.1 none are.one_each within))
 
-pub grouped_keys : (rule : Rule) (p : Poll) (reported : Outcome) (node : Ground) → IsNodeOf rule p reported node → IsGrouped (keys_under rule p.c reported node.goal p.rows) node.classes
-grouped_keys rule p reported node is = subst (IsGrouped (keys_under rule p.c reported node.goal p.rows)) (sym is.values.classes_are) (keys_are_classes (keys_under rule p.c reported node.goal p.rows)).counted
+pub grouped_keys : (rule : Rule) (p : Poll) (reported : Outcome) (node : Ground) → IsNodeOf rule p reported node → IsGrouped (keys_under rule p.c reported node.goal p.ballots) node.classes
+grouped_keys rule p reported node is = subst (IsGrouped (keys_under rule p.c reported node.goal p.ballots)) (sym is.values.classes_are) (keys_are_classes (keys_under rule p.c reported node.goal p.ballots)).counted
 
 pub pair_bound : (rule : Rule) (p : Poll) (reported : Outcome) (node : Ground) (limits : List Limit) (ls : List ℕ) (g l t : ℕ) → IsNodeOf rule p reported node → AreMultipliers node limits ls → node.goal ≡ Pair g l
-    → IsGreatestCut (pos (get_or ls 0 0) *ℤ get_or node.sums 0 (pos 0)) (map (gain_under node.lone (get_or ls 0 0)) (keys_under rule p.c reported node.goal p.rows)) (node.ballots + 1) t
+    → IsGreatestCut (pos (get_or ls 0 0) *ℤ get_or node.sums 0 (pos 0)) (map (gain_under node.lone (get_or ls 0 0)) (keys_under rule p.c reported node.goal p.ballots)) (node.ballots + 1) t
     → IsBound rule p reported node.goal limits ls t
 pair_bound rule p reported node limits ls g l t is are goal_is greatest =
     let test = λ (u : ℕ) (le : u ≤ node.ballots + 1). pair_exact rule p reported node limits ls g l u is are goal_is le in
@@ -203,7 +203,7 @@ nothing_below c rows ls t (inr cut) = absurd (let z = no_change ls in omega (ari
 root_of : (rule : Rule) (p : Poll) (reported : Outcome) (limits : List Limit) (ls : List ℕ) (t : ℕ) → limits ≡ [] → Cuts rule p reported Root limits ls t → t ≡ 0
 root_of rule p reported limits ls t none cut =
     let h : Cuts rule p reported Root [] ls t = subst (λ xs. Cuts rule p reported Root xs ls t) none cut in
-    let z = nothing_below p.c p.rows ls (min t (length p.rows + 1)) h in
+    let z = nothing_below p.c p.ballots ls (min t (length p.ballots + 1)) h in
     omega (arith, z)
 
 -- the root is cut at 0 alone
@@ -232,14 +232,14 @@ small_pair rule p reported node g l is goal_is =
     let n = named rule p reported node g l is goal_is in
     let values = n.1 in
     let base = ap (λ (xs : List ℤ). get_or xs 0 (pos 0)) values.sums_are in
-    let sum = sum_z-difference (λ row. plurality_points row g) (λ row. plurality_points row l) p.rows in
-    let a = add_up-le (λ row. plurality_points row g) 1 p.rows (λ row. points_one (is_first row g)) in
-    let b = add_up-le (λ row. plurality_points row l) 1 p.rows (λ row. points_one (is_first row l)) in
+    let sum = sum_z-difference (λ row. plurality_points row g) (λ row. plurality_points row l) p.ballots in
+    let a = add_up-le (λ row. plurality_points row g) 1 p.ballots (λ row. points_one (is_first row g)) in
+    let b = add_up-le (λ row. plurality_points row l) 1 p.ballots (λ row. points_one (is_first row l)) in
     let alone : node.lone ≡ pos 1 = values.lone_is ∙ lone_one p.c g l reported n.0.2 in
-    let keys = keys_under Plurality p.c reported (Pair g l) p.rows in
+    let keys = keys_under Plurality p.c reported (Pair g l) p.ballots in
     let k = (keys_are_classes keys).counted (λ _. 1) in
     let e = count_all keys in
-    let f : length keys ≡ length p.rows = length_map _ p.rows in
+    let f : length keys ≡ length p.ballots = length_map _ p.ballots in
     let h = sum-times_one (classes_of nat_eq keys) in
     let j : add_up (λ c. c.1) node.classes ≡ add_up (λ c. c.1) (classes_of nat_eq keys) = ap (add_up (λ c. c.1)) values.classes_are in
     let few = is.poll.few in
@@ -273,6 +273,6 @@ pub pair_test : (rule : Rule) (p : Poll) (reported : Outcome) (node : Ground) (l
     → ((keys : List ℕ) → IsGrouped keys node.classes → IsTrue answer ↔ CutsAt (pos (get_or ls 0 0) *ℤ get_or node.sums 0 (pos 0)) (map (gain_under node.lone (get_or ls 0 0)) keys) t)
     → IsTrue answer ↔ Cuts rule p reported node.goal limits ls t
 pair_test rule p reported node limits ls g l t answer is are goal_is within answers =
-    let h = answers (keys_under rule p.c reported node.goal p.rows) (grouped_keys rule p reported node is) in
+    let h = answers (keys_under rule p.c reported node.goal p.ballots) (grouped_keys rule p reported node is) in
     let e = pair_exact rule p reported node limits ls g l t is are goal_is within in
     (λ hit. e.0 (h.0 hit), λ cut. h.1 (e.1 cut))

@@ -82,8 +82,8 @@ keys_below c reported (Pair g l) rows = all_map _ 2048 rows (λ row. key_below (
 
 pub few_classes : (rule : Rule) (p : Poll) (reported : Outcome) (node : Ground) → IsNodeOf rule p reported node → length node.classes ≤ 4096
 few_classes rule p reported node is =
-    let e : node.classes ≡ classes_of nat_eq (keys_under Plurality p.c reported node.goal p.rows) =
-    is.values.classes_are ∙ ap (λ r. classes_of nat_eq (keys_under r p.c reported node.goal p.rows)) is.plurality
+    let e : node.classes ≡ classes_of nat_eq (keys_under Plurality p.c reported node.goal p.ballots) =
+    is.values.classes_are ∙ ap (λ r. classes_of nat_eq (keys_under r p.c reported node.goal p.ballots)) is.plurality
     in
-    let n = few_keys (keys_under Plurality p.c reported node.goal p.rows) (keys_below p.c reported node.goal p.rows) in
+    let n = few_keys (keys_under Plurality p.c reported node.goal p.ballots) (keys_below p.c reported node.goal p.ballots) in
     omega (arith, n, ap length e)

@@ -83,17 +83,17 @@ few_changes c j n [] le ok = omega arith
 few_changes c j n (change ∷ changes) le ok = let h = few_changes c (change.0 + 1) n changes (omega (arith, ok.1)) ok.3 in omega (arith, h, ok.0)
 
 -- no alteration of fewer than t replacements keeps all rows and limits
-sound_kept : (p : Poll) (ks : List Kept) (ls : List ℕ) (t : ℕ) (changes : List (ℕ × List ℕ)) → CutsKept p.c p.rows ks ls (min t (length p.rows + 1))
-    → IsAlteration p changes → length changes < t → AllKept (replaced 1 p.rows changes) ks → ⊥
+sound_kept : (p : Poll) (ks : List Kept) (ls : List ℕ) (t : ℕ) (changes : List (ℕ × List ℕ)) → CutsKept p.c p.ballots ks ls (min t (length p.ballots + 1))
+    → IsAlteration p changes → length changes < t → AllKept (replaced 1 p.ballots changes) ks → ⊥
 sound_kept p ks ls t changes cuts ok short holds =
-    let few = few_changes p.c 1 (length p.rows) changes (omega arith) ok in
+    let few = few_changes p.c 1 (length p.ballots) changes (omega arith) ok in
     elim cuts [
       | inl z ↦ omega (arith, few)
       | inr c ↦
-          let up = gains-bound p.c ls ks 1 1 (length p.rows) p.rows changes c.0 c.1 ok in
-          let m = most-mono (length changes) (min t (length p.rows + 1) - 1) c.0 (omega (arith, few)) in
-          let v = mix-value ls ks (replaced 1 p.rows changes) in
-          let n = mix-nonneg ls ks (replaced 1 p.rows changes) holds in
+          let up = gains-bound p.c ls ks 1 1 (length p.ballots) p.ballots changes c.0 c.1 ok in
+          let m = most-mono (length changes) (min t (length p.ballots + 1) - 1) c.0 (omega (arith, few)) in
+          let v = mix-value ls ks (replaced 1 p.ballots changes) in
+          let n = mix-nonneg ls ks (replaced 1 p.ballots changes) holds in
           omega (arith, ints, c.2)
     ]
 
@@ -128,7 +128,7 @@ pub sound : (rule : Rule) (p : Poll) (reported : Outcome) (goal : Goal) (limits 
     → Cuts rule p reported goal limits ls t → IsAlteration p changes → length changes < t → Meets rule p reported goal limits changes → ⊥
 sound rule p reported goal limits ls t changes cuts ok short meets =
     sound_kept p (kept_of rule p reported goal limits) ls t changes cuts ok short
-    (all_kept p.rows changes (rows_of rule p.c reported goal) (map (kept_limit goal) limits) meets.holds (limits_kept goal (replaced 1 p.rows changes) limits meets.kept))
+    (all_kept p.ballots changes (rows_of rule p.c reported goal) (map (kept_limit goal) limits) meets.holds (limits_kept goal (replaced 1 p.ballots changes) limits meets.kept))
 
 pub one_bound : (rule : Rule) (p : Poll) (reported : Outcome) (goal : Goal) (limits : List Limit) (ls : List ℕ) (t other : ℕ)
     → IsBound rule p reported goal limits ls t → IsBound rule p reported goal limits ls other → t ≡ other
@@ -163,4 +163,4 @@ lower_kept c rows ks ls t u le (inr cut) =
 
 pub cut_below : (rule : Rule) (p : Poll) (reported : Outcome) (goal : Goal) (limits : List Limit) (ls : List ℕ) (t u : ℕ) → u ≤ t → Cuts rule p reported goal limits ls t → Cuts rule p reported goal limits ls u
 cut_below rule p reported goal limits ls t u le cut =
-    lower_kept p.c p.rows (kept_of rule p reported goal limits) ls (min t (length p.rows + 1)) (min u (length p.rows + 1)) (omega (arith, le)) cut
+    lower_kept p.c p.ballots (kept_of rule p reported goal limits) ls (min t (length p.ballots + 1)) (min u (length p.ballots + 1)) (omega (arith, le)) cut

@@ -44,13 +44,13 @@ CutsKept c rows ks ls t =
 
 -- the multipliers cut the node at t; beyond one more than there are ballots the test is the one there
 abbrev pub Cuts : Rule → Poll → Outcome → Goal → List Limit → List ℕ → ℕ → Type 0
-Cuts rule p reported goal limits ls t = CutsKept p.c p.rows (kept_of rule p reported goal limits) ls (min t (length p.rows + 1))
+Cuts rule p reported goal limits ls t = CutsKept p.c p.ballots (kept_of rule p reported goal limits) ls (min t (length p.ballots + 1))
 
 -- the greatest number up to one more than there are ballots at which the multipliers cut the node
 pub record IsBound (rule : Rule) (p : Poll) (reported : Outcome) (goal : Goal) (limits : List Limit) (ls : List ℕ) (t : ℕ) : Type 0 where
-  pub within : t ≤ length p.rows + 1
+  pub within : t ≤ length p.ballots + 1
   pub cut : Cuts rule p reported goal limits ls t
-  pub greatest : (u : ℕ) → u ≤ length p.rows + 1 → Cuts rule p reported goal limits ls u → u ≤ t
+  pub greatest : (u : ℕ) → u ≤ length p.ballots + 1 → Cuts rule p reported goal limits ls u → u ≤ t
 
 -- limits on features of the node's goal, and multipliers below 2^63, one for each row and each limit
 pub record AreMultipliers (node : Ground) (limits : List Limit) (ls : List ℕ) : Type 0 where

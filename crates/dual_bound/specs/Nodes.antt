@@ -40,8 +40,8 @@ limit_value goal swaps limit =
 
 -- the replacements meet the node: all rows of the goal hold after them, and each limit is kept
 pub record Meets (rule : Rule) (p : Poll) (reported : Outcome) (goal : Goal) (limits : List Limit) (changes : List (ℕ × List ℕ)) : Type 0 where
-  pub holds : Holds (rows_of rule p.c reported goal) (after p changes).rows
-  pub kept : All (λ limit. pos 0 ≤ℤ limit_value goal (replaced 1 p.rows changes) limit) limits
+  pub holds : Holds (rows_of rule p.c reported goal) (after p changes).ballots
+  pub kept : All (λ limit. pos 0 ≤ℤ limit_value goal (replaced 1 p.ballots changes) limit) limits
 
 -- a row or a limit: its value before any replacement, and what a replacement changes
 pub record Kept : Type 0 where
@@ -59,7 +59,7 @@ kept_limit goal limit =
 
 -- the rows of the goal, and then the limits
 abbrev pub kept_of : Rule → Poll → Outcome → Goal → List Limit → List Kept
-kept_of rule p reported goal limits = map (kept_row p.rows) (rows_of rule p.c reported goal) ++ map (kept_limit goal) limits
+kept_of rule p reported goal limits = map (kept_row p.ballots) (rows_of rule p.c reported goal) ++ map (kept_limit goal) limits
 
 -- a goal of a contest of c candidates: the root, or a pair of two of them
 abbrev pub IsGoalOf : ℕ → Goal → Type 0

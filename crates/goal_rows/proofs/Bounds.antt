@@ -37,6 +37,6 @@ brought c top plus minus valid i j n (row ∷ rows) (change ∷ changes) ok =
 -- where the gainer is level after an alteration, its length reaches
 pub length_reaches : (top : ℕ) (plus minus : List ℕ → ℕ) (p : Poll) (changes : List (ℕ × List ℕ))
     → ((row : List ℕ) → IsValidBallot p.c row → plus row ≤ top + minus row) → IsAlteration p changes
-    → add_up minus (after_from 1 p.rows changes) ≤ add_up plus (after_from 1 p.rows changes)
-    → Reaches top plus minus p.rows (length changes)
-length_reaches top plus minus p changes valid ok level = omega (arith, level, brought p.c top plus minus valid 1 1 (length p.rows) p.rows changes ok)
+    → add_up minus (after_from 1 p.ballots changes) ≤ add_up plus (after_from 1 p.ballots changes)
+    → Reaches top plus minus p.ballots (length changes)
+length_reaches top plus minus p changes valid ok level = omega (arith, level, brought p.c top plus minus valid 1 1 (length p.ballots) p.ballots changes ok)

@@ -16,11 +16,11 @@ use Rattle.goal_rows.specs.Races.{IsGroundOf, keyed, pair_key}
 use Rattle.mov_base.proofs.Signed.{sum_z-difference}
 
 -- the kinds have as many ballots as there are
-pub few_kinds : (p : Poll) (kinds : List (List ℕ × ℕ)) → kinds ≡ classes_of bytes_eq p.rows → length p.rows ≤ 1000000 → add_up (λ k. k.1) kinds ≤ 1000000
+pub few_kinds : (p : Poll) (kinds : List (List ℕ × ℕ)) → kinds ≡ classes_of bytes_eq p.ballots → length p.ballots ≤ 1000000 → add_up (λ k. k.1) kinds ≤ 1000000
 few_kinds p kinds is few =
-    let a = (kinds_are_classes p.rows).counted (λ _. 1) in
-    let b = add_up-le (λ (_ : List ℕ). 1) 1 p.rows (λ x. omega arith) in
-    let s = sum-times_one (classes_of bytes_eq p.rows) in
+    let a = (kinds_are_classes p.ballots).counted (λ _. 1) in
+    let b = add_up-le (λ (_ : List ℕ). 1) 1 p.ballots (λ x. omega arith) in
+    let s = sum-times_one (classes_of bytes_eq p.ballots) in
     rw is (omega (arith, a, b, s, few))
 
 -- the first i kinds, and one more
@@ -87,21 +87,21 @@ counted_more f i kinds row n points sum lt row_is n_is points_is is =
 pub counted_all : (f : List ℕ → ℕ) (i : ℕ) (kinds : List (List ℕ × ℕ)) (sum : ℕ) → length kinds ≤ i → sum ≡ add_up (λ k. k.1 * f k.0) (take i kinds) → sum ≡ add_up (λ k. k.1 * f k.0) kinds
 counted_all f i kinds sum all is = is ∙ ap (add_up (λ k. k.1 * f k.0)) (take_all i kinds all)
 
-by_kinds : (f : List ℕ → ℕ) (p : Poll) (kinds : List (List ℕ × ℕ)) → kinds ≡ classes_of bytes_eq p.rows → add_up (λ k. k.1 * f k.0) kinds ≡ add_up f p.rows
-by_kinds f p kinds is = ap (add_up (λ k. k.1 * f k.0)) is ∙ sym ((kinds_are_classes p.rows).counted f)
+by_kinds : (f : List ℕ → ℕ) (p : Poll) (kinds : List (List ℕ × ℕ)) → kinds ≡ classes_of bytes_eq p.ballots → add_up (λ k. k.1 * f k.0) kinds ≡ add_up f p.ballots
+by_kinds f p kinds is = ap (add_up (λ k. k.1 * f k.0)) is ∙ sym ((kinds_are_classes p.ballots).counted f)
 
 pub pair_values : (rule : Rule) (p : Poll) (kinds : List (List ℕ × ℕ)) (reported : Outcome) (g l : ℕ) (classes : List (ℕ × ℕ)) (sum : ℤ) (lone : ℤ) (ballots : ℕ)
-    → kinds ≡ classes_of bytes_eq p.rows → classes ≡ add_all nat_eq [] (keyed (pair_key rule p.c reported g l) kinds)
+    → kinds ≡ classes_of bytes_eq p.ballots → classes ≡ add_all nat_eq [] (keyed (pair_key rule p.c reported g l) kinds)
     → sum ≡ pos (add_up (λ k. k.1 * gainer_points rule p.c reported g l k.0) kinds) -ℤ pos (add_up (λ k. k.1 * loser_points rule p.c reported g l k.0) kinds)
-    → lone ≡ pair_weight rule p.c reported g l (g ∷ []) → ballots ≡ length p.rows → IsGroundOf rule p reported (Pair g l) classes (sum ∷ []) ballots lone
+    → lone ≡ pair_weight rule p.c reported g l (g ∷ []) → ballots ≡ length p.ballots → IsGroundOf rule p reported (Pair g l) classes (sum ∷ []) ballots lone
 pair_values rule p kinds reported g l classes sum lone ballots kinds_are classes_are sum_is alone count = record {
-  classes_are = classes_are ∙ ap (λ ks. add_all nat_eq [] (keyed (pair_key rule p.c reported g l) ks)) kinds_are ∙ classes_by_kinds (pair_key rule p.c reported g l) p.rows;
+  classes_are = classes_are ∙ ap (λ ks. add_all nat_eq [] (keyed (pair_key rule p.c reported g l) ks)) kinds_are ∙ classes_by_kinds (pair_key rule p.c reported g l) p.ballots;
   sums_are =
       let e = by_kinds (gainer_points rule p.c reported g l) p kinds kinds_are in
       let f = by_kinds (loser_points rule p.c reported g l) p kinds kinds_are in
-      let w = sum_z-difference (gainer_points rule p.c reported g l) (loser_points rule p.c reported g l) p.rows in
-      let s : sum ≡ sum_z (pair_weight rule p.c reported g l) p.rows = sum_is ∙ ap (λ n. pos n -ℤ pos (add_up (λ k. k.1 * loser_points rule p.c reported g l k.0) kinds)) e
-      ∙ ap (λ n. pos (add_up (gainer_points rule p.c reported g l) p.rows) -ℤ pos n) f ∙ sym w in
+      let w = sum_z-difference (gainer_points rule p.c reported g l) (loser_points rule p.c reported g l) p.ballots in
+      let s : sum ≡ sum_z (pair_weight rule p.c reported g l) p.ballots = sum_is ∙ ap (λ n. pos n -ℤ pos (add_up (λ k. k.1 * loser_points rule p.c reported g l k.0) kinds)) e
+      ∙ ap (λ n. pos (add_up (gainer_points rule p.c reported g l) p.ballots) -ℤ pos n) f ∙ sym w in
       ap (λ z. z ∷ []) s;
   ballots_are = count;
   lone_is = alone;

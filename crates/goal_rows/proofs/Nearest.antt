@@ -62,25 +62,25 @@ no_shorter p x g k is nearest changes ok short turns =
     let reached = length_reaches 1 (points_for level.0) (points_for x) p changes (λ row valid. points_one (is_first row level.0) (is_first row x)) ok level.1.level in
     omega (arith, short, nearest.fewest level.0 (length changes) level.1.stands level.1.other reached)
 
-level_after : (p : Poll) (x g k : ℕ) → g < p.c → g ≢ x → k ≤ score_of plurality_points p.rows x → PluralityReaches p.rows g x k → IsLevel plurality_points (after p (puts_of g (first_led x 1 k p.rows))) x g
+level_after : (p : Poll) (x g k : ℕ) → g < p.c → g ≢ x → k ≤ score_of plurality_points p.ballots x → PluralityReaches p.ballots g x k → IsLevel plurality_points (after p (puts_of g (first_led x 1 k p.ballots))) x g
 level_after p x g k stands differ enough reached =
-    let m = moved p.c x g 1 k (length p.rows) p.rows stands differ (omega arith) enough in
-    record { stands = stands; other = differ; level = omega (arith, m.lost, m.won, twice_reaches g x k p.rows reached) }
+    let m = moved p.c x g 1 k (length p.ballots) p.ballots stands differ (omega arith) enough in
+    record { stands = stands; other = differ; level = omega (arith, m.lost, m.won, twice_reaches g x k p.ballots reached) }
 
 length-puts : (g : ℕ) (numbers : List ℕ) → length (puts_of g numbers) ≡ length numbers
 length-puts g [] = refl
 length-puts g (n ∷ ns) = ap suc (length-puts g ns)
 
-pub margin_of_chosen : (p : Poll) (x g k : ℕ) → IsLowestWithGreatest plurality_points p x → IsNearest p x g k → k ≤ score_of plurality_points p.rows x → IsPluralityMargin p x g (first_led x 1 k p.rows)
+pub margin_of_chosen : (p : Poll) (x g k : ℕ) → IsLowestWithGreatest plurality_points p x → IsNearest p x g k → k ≤ score_of plurality_points p.ballots x → IsPluralityMargin p x g (first_led x 1 k p.ballots)
 margin_of_chosen p x g k is nearest enough =
-    let len = length-chosen x 1 k p.rows enough in
-    let ok : IsAlteration p (puts_of g (first_led x 1 k p.rows)) = alters p.c g x 1 k (length p.rows) p.rows nearest.stands (omega arith) in
-    let turned = turns_from_level p x g (puts_of g (first_led x 1 k p.rows)) is (level_after p x g k nearest.stands nearest.other enough nearest.reached) in
+    let len = length-chosen x 1 k p.ballots enough in
+    let ok : IsAlteration p (puts_of g (first_led x 1 k p.ballots)) = alters p.c g x 1 k (length p.ballots) p.ballots nearest.stands (omega arith) in
+    let turned = turns_from_level p x g (puts_of g (first_led x 1 k p.ballots)) is (level_after p x g k nearest.stands nearest.other enough nearest.reached) in
     record {
-      cheapest = record { nearest = rw len nearest; alteration = ok; first = come_first g x k p.rows nearest.other };
+      cheapest = record { nearest = rw len nearest; alteration = ok; first = come_first g x k p.ballots nearest.other };
       turned = turned;
       margin = record {
-        turned = (puts_of g (first_led x 1 k p.rows), ok, length-puts g (first_led x 1 k p.rows), turned);
+        turned = (puts_of g (first_led x 1 k p.ballots), ok, length-puts g (first_led x 1 k p.ballots), turned);
         least = rw len (no_shorter p x g k is nearest);
       };
     }

@@ -44,19 +44,19 @@ pair_row rule c reported g l rows =
     )
 
 abbrev Met : Rule → Poll → Outcome → List (ℕ × List ℕ) → Type 0
-Met rule p reported changes = (goal : Goal) × IsComplete (root_goals rule p.c reported) goal × Holds (rows_of rule p.c reported goal) (after p changes).rows
+Met rule p reported changes = (goal : Goal) × IsComplete (root_goals rule p.c reported) goal × Holds (rows_of rule p.c reported goal) (after p changes).ballots
 
 -- ---- Borda: somebody's score reaches the winner's
 
 borda_met : (p : Poll) (x : ℕ) (changes : List (ℕ × List ℕ)) → ((j : ℕ) × IsLevel (borda_points p.c) (after p changes) x j) → Met Borda p (Winner x) changes
-borda_met p x changes (j, is) = (Pair j x, pair_among p.c x j is.stands is.other, (pair_row Borda p.c (Winner x) j x (after p changes).rows).1 is.level)
+borda_met p x changes (j, is) = (Pair j x, pair_among p.c x j is.stands is.other, (pair_row Borda p.c (Winner x) j x (after p changes).ballots).1 is.level)
 
 borda_level : (p : Poll) (x : ℕ) (changes : List (ℕ × List ℕ)) → Met Borda p (Winner x) changes → (j : ℕ) × IsLevel (borda_points p.c) (after p changes) x j
 borda_level p x changes (Root, complete, holds) = absurd complete
 borda_level p x changes (Pair g l, complete, holds) =
     let is = pairs_are p.c x g l complete in
-    let level = (pair_row Borda p.c (Winner x) g l (after p changes).rows).0 holds in
-    (g, record { stands = is.0; other = is.1; level = subst (λ y. score_of (borda_points p.c) (after p changes).rows y ≤ score_of (borda_points p.c) (after p changes).rows g) is.2 level })
+    let level = (pair_row Borda p.c (Winner x) g l (after p changes).ballots).0 holds in
+    (g, record { stands = is.0; other = is.1; level = subst (λ y. score_of (borda_points p.c) (after p changes).ballots y ≤ score_of (borda_points p.c) (after p changes).ballots g) is.2 level })
 
 borda_turning : (p : Poll) (x : ℕ) (changes : List (ℕ × List ℕ)) → IsReported Borda p (Winner x) → Turns Borda p changes ↔ Met Borda p (Winner x) changes
 borda_turning p x changes is =
@@ -78,39 +78,39 @@ nobody_is : (x : ℕ) → None ≡ Some x → ⊥
 nobody_is x e = cc
 
 rival_of_turn : (p : Poll) (x : ℕ) (changes : List (ℕ × List ℕ)) (o : Outcome) → IsReported Condorcet p (Winner x) → (IsReported Condorcet p o → ⊥) → Admits Condorcet (after p changes) o
-    → (j : ℕ) × IsRival p.c (pref_of (after p changes).rows) x j
+    → (j : ℕ) × IsRival p.c (pref_of (after p changes).ballots) x j
 rival_of_turn p x changes (Winner y) is unlike admitted =
-    rival_of_other p.c (pref_of (after p changes).rows) x (Some y) is.stands (λ e. unlike (subst (λ z. IsReported Condorcet p (Winner z)) (sym (some_is y x e)) is)) admitted
-rival_of_turn p x changes NoWinner is unlike admitted = rival_of_other p.c (pref_of (after p changes).rows) x None is.stands (nobody_is x) admitted
+    rival_of_other p.c (pref_of (after p changes).ballots) x (Some y) is.stands (λ e. unlike (subst (λ z. IsReported Condorcet p (Winner z)) (sym (some_is y x e)) is)) admitted
+rival_of_turn p x changes NoWinner is unlike admitted = rival_of_other p.c (pref_of (after p changes).ballots) x None is.stands (nobody_is x) admitted
 rival_of_turn p x changes (Seats shares) is unlike admitted = absurd admitted
 
 turn_by : (p : Poll) (x : ℕ) (changes : List (ℕ × List ℕ)) (o : Option ℕ) → IsReported Condorcet p (Winner x) → o ≢ Some x
-    → IsAdmittedOutcome p.c (pref_of (after p changes).rows) o → Turns Condorcet p changes
+    → IsAdmittedOutcome p.c (pref_of (after p changes).ballots) o → Turns Condorcet p changes
 turn_by p x changes (Some y) is differ admitted = (Winner y, λ r. differ (ap Some (winner_is y x (one_reported Condorcet p (Winner y) (Winner x) r is))), admitted)
 turn_by p x changes None is differ admitted = (NoWinner, λ r. r x is, admitted)
 
-rival_met : (p : Poll) (x : ℕ) (changes : List (ℕ × List ℕ)) → ((j : ℕ) × IsRival p.c (pref_of (after p changes).rows) x j) → Met Condorcet p (Winner x) changes
+rival_met : (p : Poll) (x : ℕ) (changes : List (ℕ × List ℕ)) → ((j : ℕ) × IsRival p.c (pref_of (after p changes).ballots) x j) → Met Condorcet p (Winner x) changes
 rival_met p x changes (j, is) =
     let level = is.level in
-    let a = pref_sum (after p changes).rows x j in
-    let b = pref_sum (after p changes).rows j x in
-    (Pair j x, pair_among p.c x j is.stands is.other, (pair_row Condorcet p.c (Winner x) j x (after p changes).rows).1 (omega (arith, level, a, b)))
+    let a = pref_sum (after p changes).ballots x j in
+    let b = pref_sum (after p changes).ballots j x in
+    (Pair j x, pair_among p.c x j is.stands is.other, (pair_row Condorcet p.c (Winner x) j x (after p changes).ballots).1 (omega (arith, level, a, b)))
 
-met_rival : (p : Poll) (x : ℕ) (changes : List (ℕ × List ℕ)) → Met Condorcet p (Winner x) changes → (j : ℕ) × IsRival p.c (pref_of (after p changes).rows) x j
+met_rival : (p : Poll) (x : ℕ) (changes : List (ℕ × List ℕ)) → Met Condorcet p (Winner x) changes → (j : ℕ) × IsRival p.c (pref_of (after p changes).ballots) x j
 met_rival p x changes (Root, complete, holds) = absurd complete
 met_rival p x changes (Pair g l, complete, holds) =
     let is = pairs_are p.c x g l complete in
-    let level = (pair_row Condorcet p.c (Winner x) g l (after p changes).rows).0 holds in
-    let a = pref_sum (after p changes).rows l g in
-    let b = pref_sum (after p changes).rows g l in
-    let here : pref_of (after p changes).rows l g ≤ pref_of (after p changes).rows g l = omega (arith, level, a, b) in
-    (g, record { stands = is.0; other = is.1; level = subst (λ y. pref_of (after p changes).rows y g ≤ pref_of (after p changes).rows g y) is.2 here })
+    let level = (pair_row Condorcet p.c (Winner x) g l (after p changes).ballots).0 holds in
+    let a = pref_sum (after p changes).ballots l g in
+    let b = pref_sum (after p changes).ballots g l in
+    let here : pref_of (after p changes).ballots l g ≤ pref_of (after p changes).ballots g l = omega (arith, level, a, b) in
+    (g, record { stands = is.0; other = is.1; level = subst (λ y. pref_of (after p changes).ballots y g ≤ pref_of (after p changes).ballots g y) is.2 here })
 
 condorcet_turning : (p : Poll) (x : ℕ) (changes : List (ℕ × List ℕ)) → IsReported Condorcet p (Winner x) → Turns Condorcet p changes ↔ Met Condorcet p (Winner x) changes
 condorcet_turning p x changes is = (
   λ turns. rival_met p x changes (rival_of_turn p x changes turns.0 is turns.1 turns.2),
   λ met. let rival = met_rival p x changes met in
-      let other = other_of_rival p.c (pref_of (after p changes).rows) x rival.0 rival.1 in
+      let other = other_of_rival p.c (pref_of (after p changes).ballots) x rival.0 rival.1 in
       turn_by p x changes other.0 is other.1 other.2,
 )
 
@@ -127,22 +127,22 @@ first_sum (row ∷ rows) x n =
     by true m h = omega (arith, h)
     by false m h = omega (arith, h)
 
-vote_at : (p : Poll) (a : ℕ) → a < p.c → get_or (votes_of p) a 0 ≡ first_count p.rows a
-vote_at p a lt = get_or-map-range_with_len (λ b. first_count p.rows b) 0 p.c a a 0 lt (omega arith)
+vote_at : (p : Poll) (a : ℕ) → a < p.c → get_or (votes_of p) a 0 ≡ first_count p.ballots a
+vote_at p a lt = get_or-map-range_with_len (λ b. first_count p.ballots b) 0 p.c a a 0 lt (omega arith)
 
 votes_long : (p : Poll) → length (votes_of p) ≡ p.c
-votes_long p = length-map (range_with_len 0 p.c) (λ b. first_count p.rows b) ∙ length-range_with_len 0 p.c
+votes_long p = length-map (range_with_len 0 p.c) (λ b. first_count p.ballots b) ∙ length-range_with_len 0 p.c
 
 length_votes : (p : Poll) → IsPoll p → 1 ≤ length (votes_of p)
 length_votes p is = let long = votes_long p in let some = is.some in omega arith
 
 -- a party gains after the changes exactly where the row of its pair holds then
 seat_row : (p q : Poll) (s : ℕ) (shares : List ℕ) (g l : ℕ) → g < q.c → l < q.c
-    → Holds (rows_of (Dhondt s) p.c (Seats shares) (Pair g l)) q.rows ↔ (get_or (votes_of q) l 0 * (get_or shares g 0 + 1) ≤ get_or (votes_of q) g 0 * get_or shares l 0)
+    → Holds (rows_of (Dhondt s) p.c (Seats shares) (Pair g l)) q.ballots ↔ (get_or (votes_of q) l 0 * (get_or shares g 0 + 1) ≤ get_or (votes_of q) g 0 * get_or shares l 0)
 seat_row p q s shares g l gc lc =
-    let row = pair_row (Dhondt s) p.c (Seats shares) g l q.rows in
-    let a = first_sum q.rows l (get_or shares g 0 + 1) in
-    let b = first_sum q.rows g (get_or shares l 0) in
+    let row = pair_row (Dhondt s) p.c (Seats shares) g l q.ballots in
+    let a = first_sum q.ballots l (get_or shares g 0 + 1) in
+    let b = first_sum q.ballots g (get_or shares l 0) in
     let vl = vote_at q l lc in
     let vg = vote_at q g gc in
     rw (vl, vg, ← a, ← b) row

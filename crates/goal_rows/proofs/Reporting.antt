@@ -79,8 +79,8 @@ one_outcome c s None None a b = refl
 some_is : (x y : ℕ) → Some x ≡ Some y → x ≡ y
 some_is x y e = cc
 
-one_settled : (p : Poll) (o other : Option ℕ) → IsReportedOutcome p.c (pref_of p.rows) o → IsReportedOutcome p.c (pref_of p.rows) other → o ≡ other
-one_settled p o other a b = one_outcome p.c (ties_to_lower (pref_of p.rows)) o other a b
+one_settled : (p : Poll) (o other : Option ℕ) → IsReportedOutcome p.c (pref_of p.ballots) o → IsReportedOutcome p.c (pref_of p.ballots) other → o ≡ other
+one_settled p o other a b = one_outcome p.c (ties_to_lower (pref_of p.ballots)) o other a b
 
 one_last : (order other : List ℕ) (x y : ℕ) → order ≡ other → IsLast order x → IsLast other y → x ≡ y
 one_last order other x y same a b =

@@ -91,23 +91,23 @@ holds_pair c g l reported rows holds =
 
 -- ---- turning
 goal_of_level : (p : Poll) (x : ℕ) (changes : List (ℕ × List ℕ)) → ((j : ℕ) × IsLevel plurality_points (after p changes) x j)
-    → (goal : Goal) × IsComplete (pairs_below p.c x) goal × Holds (rows_of Plurality p.c (Winner x) goal) (after p changes).rows
+    → (goal : Goal) × IsComplete (pairs_below p.c x) goal × Holds (rows_of Plurality p.c (Winner x) goal) (after p changes).ballots
 goal_of_level p x changes level = (
   Pair level.0 x,
   pair_among p.c x level.0 level.1.stands level.1.other,
-  pair_holds p.c level.0 x (Winner x) (after p changes).rows level.1.level,
+  pair_holds p.c level.0 x (Winner x) (after p changes).ballots level.1.level,
 )
 
 level_of_goal : (p : Poll) (x : ℕ) (changes : List (ℕ × List ℕ)) (goal : Goal) → IsComplete (pairs_below p.c x) goal
-    → Holds (rows_of Plurality p.c (Winner x) goal) (after p changes).rows → (j : ℕ) × IsLevel plurality_points (after p changes) x j
+    → Holds (rows_of Plurality p.c (Winner x) goal) (after p changes).ballots → (j : ℕ) × IsLevel plurality_points (after p changes) x j
 level_of_goal p x changes Root complete holds = absurd complete
 level_of_goal p x changes (Pair g l) complete holds =
     let is = pairs_are p.c x g l complete in
-    let level = holds_pair p.c g l (Winner x) (after p changes).rows holds in
-    (g, record { stands = is.0; other = is.1; level = subst (λ y. score_of plurality_points (after p changes).rows y ≤ score_of plurality_points (after p changes).rows g) is.2 level })
+    let level = holds_pair p.c g l (Winner x) (after p changes).ballots holds in
+    (g, record { stands = is.0; other = is.1; level = subst (λ y. score_of plurality_points (after p changes).ballots y ≤ score_of plurality_points (after p changes).ballots g) is.2 level })
 
 pub turning : (p : Poll) (reported : Outcome) (changes : List (ℕ × List ℕ)) → IsReported Plurality p reported → Turns Plurality p changes
-    ↔ ((goal : Goal) × IsComplete (root_goals Plurality p.c reported) goal × Holds (rows_of Plurality p.c reported goal) (after p changes).rows)
+    ↔ ((goal : Goal) × IsComplete (root_goals Plurality p.c reported) goal × Holds (rows_of Plurality p.c reported goal) (after p changes).ballots)
 turning p (Winner x) changes is =
     let exactly = turns_exactly p x changes is in
     (λ turns. goal_of_level p x changes (exactly.0 turns), λ met. exactly.1 (level_of_goal p x changes met.0 met.1 met.2))

@@ -41,7 +41,7 @@ greatest_below f (suc (suc c)) some =
 pub other_greatest : (points : List ℕ → ℕ → ℕ) (p q : Poll) (x j : ℕ) → IsLowestWithGreatest points p x → IsLevel points q x j
     → (o : ℕ) × (IsLowestWithGreatest points p o → ⊥) × HasGreatestScore points q o
 other_greatest points p q x j is level =
-    let f : ℕ → ℕ = λ y. score_of points q.rows y in
+    let f : ℕ → ℕ = λ y. score_of points q.ballots y in
     let best = greatest_below f q.c (omega (arith, level.stands)) in
     elim (cases_eq best.0 x) [
       | inr differ ↦ (best.0, λ r. differ (one_lowest points p best.0 x r is), record { stands = best.1; greatest = best.2 })

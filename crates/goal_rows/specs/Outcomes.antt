@@ -14,12 +14,12 @@ use Rattle.irv_count.specs.Orders.{IsLast, IsLegalOrder, IsOrderBy}
 -- no candidate's score is greater than that of x
 pub record HasGreatestScore (points : List ℕ → ℕ → ℕ) (p : Poll) (x : ℕ) : Type 0 where
   pub stands : x < p.c
-  pub greatest : (y : ℕ) → y < p.c → score_of points p.rows y ≤ score_of points p.rows x
+  pub greatest : (y : ℕ) → y < p.c → score_of points p.ballots y ≤ score_of points p.ballots x
 
 -- x has the lowest number of those with the greatest score
 pub record IsLowestWithGreatest (points : List ℕ → ℕ → ℕ) (p : Poll) (x : ℕ) : Type 0 where
   pub greatest : HasGreatestScore points p x
-  pub lowest : (y : ℕ) → y < x → score_of points p.rows y < score_of points p.rows x
+  pub lowest : (y : ℕ) → y < x → score_of points p.ballots y < score_of points p.ballots x
 
 -- some choice at the ties gives this outcome: a candidate with the greatest score; who is chosen in all pairs of some settling, or
 -- nobody where none is in some settling; an allocation of the seats; the last of some legal order
@@ -30,8 +30,8 @@ Admits Plurality p (Seats shares) = ⊥
 Admits Borda p (Winner x) = HasGreatestScore (borda_points p.c) p x
 Admits Borda p NoWinner = ⊥
 Admits Borda p (Seats shares) = ⊥
-Admits Condorcet p (Winner x) = IsAdmittedOutcome p.c (pref_of p.rows) (Some x)
-Admits Condorcet p NoWinner = IsAdmittedOutcome p.c (pref_of p.rows) None
+Admits Condorcet p (Winner x) = IsAdmittedOutcome p.c (pref_of p.ballots) (Some x)
+Admits Condorcet p NoWinner = IsAdmittedOutcome p.c (pref_of p.ballots) None
 Admits Condorcet p (Seats shares) = ⊥
 Admits (Dhondt seats) p (Winner x) = ⊥
 Admits (Dhondt seats) p NoWinner = ⊥
@@ -50,8 +50,8 @@ IsReported Plurality p (Seats shares) = ⊥
 IsReported Borda p (Winner x) = IsLowestWithGreatest (borda_points p.c) p x
 IsReported Borda p NoWinner = ⊥
 IsReported Borda p (Seats shares) = ⊥
-IsReported Condorcet p (Winner x) = IsReportedOutcome p.c (pref_of p.rows) (Some x)
-IsReported Condorcet p NoWinner = IsReportedOutcome p.c (pref_of p.rows) None
+IsReported Condorcet p (Winner x) = IsReportedOutcome p.c (pref_of p.ballots) (Some x)
+IsReported Condorcet p NoWinner = IsReportedOutcome p.c (pref_of p.ballots) None
 IsReported Condorcet p (Seats shares) = ⊥
 IsReported (Dhondt seats) p (Winner x) = ⊥
 IsReported (Dhondt seats) p NoWinner = ⊥

@@ -35,9 +35,9 @@ PluralityReaches rows g l k = Reaches 1 (points_for g) (points_for l) rows k
 pub record IsNearest (p : Poll) (x g k : ℕ) : Type 0 where
   pub stands : g < p.c
   pub other : g ≢ x
-  pub reached : PluralityReaches p.rows g x k
-  pub fewest : (j i : ℕ) → j < p.c → j ≢ x → PluralityReaches p.rows j x i → k ≤ i
-  pub lowest : (j i : ℕ) → j < g → j ≢ x → PluralityReaches p.rows j x i → k < i
+  pub reached : PluralityReaches p.ballots g x k
+  pub fewest : (j i : ℕ) → j < p.c → j ≢ x → PluralityReaches p.ballots j x i → k ≤ i
+  pub lowest : (j i : ℕ) → j < g → j ≢ x → PluralityReaches p.ballots j x i → k < i
 
 -- the ballots with these numbers, from 1, come before all others, by gain, the greatest first, and then by number
 abbrev pub ComeFirst : List ℕ → List ℕ → Type 0
@@ -53,7 +53,7 @@ puts_of g numbers = map (λ number. (number, g ∷ [])) numbers
 pub record IsCheapest (p : Poll) (x g : ℕ) (numbers : List ℕ) : Type 0 where
   pub nearest : IsNearest p x g (length numbers)
   pub alteration : IsAlteration p (puts_of g numbers)
-  pub first : ComeFirst (plurality_gains g x p.rows) numbers
+  pub first : ComeFirst (plurality_gains g x p.ballots) numbers
 
 -- the numbers of the first k ballots that x leads, where the first ballot has the number i
 abbrev pub first_led : ℕ → ℕ → ℕ → List (List ℕ) → List ℕ
@@ -65,7 +65,7 @@ first_led x i (suc k) (row ∷ rows) = if is_first row x then i ∷ first_led x 
 pub record IsLevel (points : List ℕ → ℕ → ℕ) (p : Poll) (x j : ℕ) : Type 0 where
   pub stands : j < p.c
   pub other : j ≢ x
-  pub level : score_of points p.rows x ≤ score_of points p.rows j
+  pub level : score_of points p.ballots x ≤ score_of points p.ballots j
 
 -- what is said of a contest by the challenger g of the reported x and the numbers of the ballots to replace by g alone: they are
 -- the cheapest, they turn the outcome, and no fewer of any kind do

@@ -13,7 +13,7 @@ use Rattle.goal_rows.specs.declared.goals.Goal.TheVariants.{Root, Pair}
 
 -- the kinds of the ballots, the reported outcome, and the root goals
 pub record IsRace (rule : Rule) (p : Poll) (kinds : List (List ℕ × ℕ)) (reported : Outcome) (roots : List Goal) : Type 0 where
-  pub kinds_are : kinds ≡ classes_of bytes_eq p.rows
+  pub kinds_are : kinds ≡ classes_of bytes_eq p.ballots
   pub reported_is : IsReported rule p reported
   pub roots_are : roots ≡ root_goals rule p.c reported
 
@@ -33,9 +33,9 @@ lone_weight rule c reported (Pair g l) = pair_weight rule c reported g l (g ∷ 
 
 -- the classes of the ballots under a goal, the value of each of its rows, the number of ballots, and the weight of the gainer alone
 pub record IsGroundOf (rule : Rule) (p : Poll) (reported : Outcome) (goal : Goal) (classes : List (ℕ × ℕ)) (sums : List ℤ) (ballots : ℕ) (lone : ℤ) : Type 0 where
-  pub classes_are : classes ≡ classes_of nat_eq (keys_under rule p.c reported goal p.rows)
-  pub sums_are : sums ≡ map (λ weight. sum_z weight p.rows) (rows_of rule p.c reported goal)
-  pub ballots_are : ballots ≡ length p.rows
+  pub classes_are : classes ≡ classes_of nat_eq (keys_under rule p.c reported goal p.ballots)
+  pub sums_are : sums ≡ map (λ weight. sum_z weight p.ballots) (rows_of rule p.c reported goal)
+  pub ballots_are : ballots ≡ length p.ballots
   pub lone_is : lone ≡ lone_weight rule p.c reported goal
 
 -- kinds of ballots by a key

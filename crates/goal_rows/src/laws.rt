@@ -39,7 +39,7 @@ pub fn plurality_turns_where_a_challenger_is_level()
 pub fn replacements_bring_at_most_the_largest_gains()
     ensures { (top : ℕ) (plus minus : List ℕ → ℕ) (p : Poll) (changes : List (ℕ × List ℕ)) →
         ((row : List ℕ) → IsValidBallot p.c row → plus row ≤ top + minus row) → IsAlteration p changes →
-        add_up minus (after p changes).rows ≤ add_up plus (after p changes).rows → Reaches top plus minus p.rows (length changes) }
+        add_up minus (after p changes).ballots ≤ add_up plus (after p changes).ballots → Reaches top plus minus p.ballots (length changes) }
 {}
 
 /// Another allocation of seats than a given one is admitted exactly where the next quotient of some party reaches the last one of
@@ -54,7 +54,7 @@ pub fn other_seats_are_admitted_where_a_party_gains()
 pub fn the_outcome_turns_where_a_pair_holds()
     ensures { (rule : ARule) (p : Poll) (reported : AnOutcome) (changes : List (ℕ × List ℕ)) → IsDecidedByPairs rule reported → IsPoll p →
         IsReported rule p reported → Turns rule p changes
-        ↔ ((goal : AGoal) × IsComplete (root_goals rule p.c reported) goal × Holds (rows_of rule p.c reported goal) (after p changes).rows) }
+        ↔ ((goal : AGoal) × IsComplete (root_goals rule p.c reported) goal × Holds (rows_of rule p.c reported goal) (after p changes).ballots) }
 {}
 
 /// A complete goal is reached from the root through covers in just one way.

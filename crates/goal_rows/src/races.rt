@@ -30,7 +30,7 @@ pub fn race<'a>(alloc: Global, rule: Rule, roll: &'a Roll) -> Result<Race<'a>, M
     ensures race { IfOk result (λ race. IsRace rule roll.now race.kinds race.reported race.roots) }
     // The outcome turns exactly where all rows of some complete goal hold after the replacements.
     ensures turning { IfOk result (λ race. (changes : List (ℕ × List ℕ)) → Turns rule roll.now changes
-        ↔ ((goal : AGoal) × IsComplete race.roots goal × Holds (rows_of rule roll.now.c race.reported goal) (after roll.now changes).rows)) }
+        ↔ ((goal : AGoal) × IsComplete race.roots goal × Holds (rows_of rule roll.now.c race.reported goal) (after roll.now changes).ballots)) }
 {
     let kinds = kinds(alloc, roll)?;
     let reported = reported(alloc, rule, roll)?;

@@ -13,9 +13,9 @@ use ballot_form::{Cand, Roll};
 pub fn rows_hold(race: &Race<'_>, after: &Roll, goal: &Goal, scratch: &mut [i64]) -> bool
     requires complete { IsComplete race.now.roots goal.now }
     requires same_sizes { after.now.c ≡ race.now.roll.now.c }
-    requires same_length { length after.now.rows ≡ length race.now.roll.now.rows }
+    requires same_length { length after.now.ballots ≡ length race.now.roll.now.ballots }
     requires room { 780 ≤ length scratch.old }
-    ensures { IsTrue result ↔ Holds (rows_of race.now.rule race.now.roll.now.c race.now.reported goal.now) after.now.rows }
+    ensures { IsTrue result ↔ Holds (rows_of race.now.rule race.now.roll.now.c race.now.reported goal.now) after.now.ballots }
 {
     let _ = scratch;
     match goal {
@@ -26,8 +26,8 @@ pub fn rows_hold(race: &Race<'_>, after: &Roll, goal: &Goal, scratch: &mut [i64]
 
 /// Whether what the ballots count for the gainer reaches what they count for the loser.
 fn is_level(race: &Race<'_>, roll: &Roll, gainer: Cand, loser: Cand) -> bool
-    ensures { IsTrue result ↔ (add_up (loser_points race.now.rule race.now.roll.now.c race.now.reported gainer loser) roll.now.rows
-        ≤ add_up (gainer_points race.now.rule race.now.roll.now.c race.now.reported gainer loser) roll.now.rows) }
+    ensures { IsTrue result ↔ (add_up (loser_points race.now.rule race.now.roll.now.c race.now.reported gainer loser) roll.now.ballots
+        ≤ add_up (gainer_points race.now.rule race.now.roll.now.c race.now.reported gainer loser) roll.now.ballots) }
 {
     let (gained, lost) = ballot_counts(race, roll, gainer, loser);
     lost <= gained
@@ -36,8 +36,8 @@ fn is_level(race: &Race<'_>, roll: &Roll, gainer: Cand, loser: Cand) -> bool
 /// What the ballots count for the gainer, and what they count for the loser.
 #[tactic(auto, using(mov_base::proofs::Sums::add_up_more))]
 fn ballot_counts(race: &Race<'_>, roll: &Roll, gainer: Cand, loser: Cand) -> (u64, u64)
-    ensures gained { result.0 ≡ add_up (gainer_points race.now.rule race.now.roll.now.c race.now.reported gainer loser) roll.now.rows }
-    ensures lost { result.1 ≡ add_up (loser_points race.now.rule race.now.roll.now.c race.now.reported gainer loser) roll.now.rows }
+    ensures gained { result.0 ≡ add_up (gainer_points race.now.rule race.now.roll.now.c race.now.reported gainer loser) roll.now.ballots }
+    ensures lost { result.1 ≡ add_up (loser_points race.now.rule race.now.roll.now.c race.now.reported gainer loser) roll.now.ballots }
 {
     let mut gained = 0;
     let mut lost = 0;

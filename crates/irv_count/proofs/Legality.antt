@@ -13,16 +13,16 @@ legal_begun p order = record { set = all_left p.c order; least = λ k y lt. absu
 
 -- what is asked of the counts of the set of bits is asked of those who are left
 least_left : (p : Poll) (order : List ℕ) (standing i : ℕ) → IsPoll p → AreBitsOf p.c (left_after order i) standing
-    → (IsLeast (held_count (stands standing) p.rows) standing p.c (get_or order i 0)
-    ↔ ((y : ℕ) → y < p.c → left_after order i y ≡ true → held_count (left_after order i) p.rows (get_or order i 0) ≤ held_count (left_after order i) p.rows y))
+    → (IsLeast (held_count (stands standing) p.ballots) standing p.c (get_or order i 0)
+    ↔ ((y : ℕ) → y < p.c → left_after order i y ≡ true → held_count (left_after order i) p.ballots (get_or order i 0) ≤ held_count (left_after order i) p.ballots y))
 least_left p order standing i is set =
-    let same : (x : ℕ) → held_count (stands standing) p.rows x ≡ held_count (left_after order i) p.rows x = (λ x. held_by_bits (left_after order i) p.c standing p.rows x is.valid set) in (
+    let same : (x : ℕ) → held_count (stands standing) p.ballots x ≡ held_count (left_after order i) p.ballots x = (λ x. held_by_bits (left_after order i) p.c standing p.ballots x is.valid set) in (
       λ least y yc stays. let k = least y yc (set.bits y yc ∙ stays) in rw (same (get_or order i 0), same y) at k,
       λ least y yc on. let k = least y yc (sym (set.bits y yc) ∙ on) in rw (← same (get_or order i 0), ← same y) at k,
     )
 
 pub legal_stepped : (p : Poll) (order : List ℕ) (standing after i : ℕ) → IsPoll p → IsOrder p.c order → i < p.c → IsLegalTo p order standing i
-    → IsLeast (held_count (stands standing) p.rows) standing p.c (get_or order i 0)
+    → IsLeast (held_count (stands standing) p.ballots) standing p.c (get_or order i 0)
     → ((y : ℕ) → y < 64 → (y ≡ get_or order i 0 → ⊥) → stands after y ≡ stands standing y) → stands after (get_or order i 0) ≡ false → after ≤ standing
     → IsLegalTo p order after (i + 1)
 legal_stepped p order standing after i is whole ic to least others gone smaller =
@@ -32,7 +32,7 @@ legal_stepped p order standing after i is whole ic to least others gone smaller 
       least = λ k y kl yc stays. elim (cases_eq k i) [
         | inl e ↦
             let s = rw e at stays in
-            subst (λ j. held_count (left_after order j) p.rows (get_or order j 0) ≤ held_count (left_after order j) p.rows y) (sym e) ((least_left p order standing i is to.set).0 least y yc s)
+            subst (λ j. held_count (left_after order j) p.ballots (get_or order j 0) ≤ held_count (left_after order j) p.ballots y) (sym e) ((least_left p order standing i is to.set).0 least y yc s)
         | inr ne ↦ to.least k y (omega arith) yc stays
       ];
     }
@@ -44,7 +44,7 @@ legal_ended p order standing i whole all to = record {
 }
 
 pub not_legal : (p : Poll) (order : List ℕ) (standing i : ℕ) → IsPoll p → i < p.c → IsLegalTo p order standing i
-    → (IsLeast (held_count (stands standing) p.rows) standing p.c (get_or order i 0) → ⊥) → IsLegalOrder p order → ⊥
+    → (IsLeast (held_count (stands standing) p.ballots) standing p.c (get_or order i 0) → ⊥) → IsLegalOrder p order → ⊥
 not_legal p order standing i is ic to none legal = none ((least_left p order standing i is to.set).1 (λ y yc stays. legal.least i y ic yc stays))
 
 -- counts that are equal below n have the same least ones

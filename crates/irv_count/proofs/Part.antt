@@ -76,12 +76,12 @@ fresh against p order standing x count part out = not_true (member x order) (sym
 
 -- one more goes
 pub stepped : (against : Option ℕ) (p : Poll) (order : List ℕ) (standing after x : ℕ) → IsPoll p
-    → IsPart against p order standing → IsOut against (held_count (stands standing) p.rows) standing p.c x
+    → IsPart against p order standing → IsOut against (held_count (stands standing) p.ballots) standing p.c x
     → ((y : ℕ) → y < 64 → (y ≡ x → ⊥) → stands after y ≡ stands standing y) → stands after x ≡ false → after ≤ standing → IsPart against p (order ++ x ∷ []) after
 stepped against p order standing after x is part out others gone smaller =
     let few : p.c ≤ 12 = is.most in
     let long : length (order ++ x ∷ []) ≡ length order + 1 = simp length-append refl in
-    let new : member x order ≡ false = fresh against p order standing x (held_count (stands standing) p.rows) part out in
+    let new : member x order ≡ false = fresh against p order standing x (held_count (stands standing) p.ballots) part out in
     let old : (i : ℕ) → i < length order → get_or (order ++ x ∷ []) i 0 ≡ get_or order i 0 = λ i lt. get_or_append_left order (x ∷ []) 0 i lt in
     let last : get_or (order ++ x ∷ []) (length order) 0 ≡ x = get_or-append_seam order x [] 0 in
     let before : (i : ℕ) → i < length order → take i (order ++ x ∷ []) ≡ take i order = λ i lt. take-append-le i order (x ∷ []) (omega arith) in
@@ -102,13 +102,13 @@ stepped against p order standing after x is part out others gone smaller =
       first = λ i y lt yc stays. elim (cases_lt i (length order)) [
         | inl l ↦
             let s1 : not (member y (take i (order ++ x ∷ []))) ≡ true = stays in
-            rw (old i l) (subst (λ gone. FirstBy against p.rows gone (get_or order i 0) y) (sym (before i l)) (part.first i y l yc (rw (before i l) at s1)))
+            rw (old i l) (subst (λ gone. FirstBy against p.ballots gone (get_or order i 0) y) (sym (before i l)) (part.first i y l yc (rw (before i l) at s1)))
         | inr g ↦
             let e : i ≡ length order = let k = rw long at lt in omega arith in
             let s1 : not (member y order) ≡ true = rw (e, all) at stays in
-            let same : (z : ℕ) → held_count (stands standing) p.rows z ≡ held_count (λ u. not (member u order)) p.rows z =
-            (λ z. held_by_bits (λ u. not (member u order)) p.c standing p.rows z is.valid part.set) in
-            rw (e, last) (subst (λ gone. FirstBy against p.rows gone x y) (sym all) (elim (out.first y yc (part.set.bits y yc ∙ s1)) [
+            let same : (z : ℕ) → held_count (stands standing) p.ballots z ≡ held_count (λ u. not (member u order)) p.ballots z =
+            (λ z. held_by_bits (λ u. not (member u order)) p.c standing p.ballots z is.valid part.set) in
+            rw (e, last) (subst (λ gone. FirstBy against p.ballots gone x y) (sym all) (elim (out.first y yc (part.set.bits y yc ∙ s1)) [
               | inl is_x ↦ inl is_x
               | inr goes ↦ inr (rw (same x, same y) at goes)
             ]))

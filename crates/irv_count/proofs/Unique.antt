@@ -15,8 +15,8 @@ both_first (Some b) x y f g = grind arith
 pub record IsPlace (against : Option ℕ) (p : Poll) (gone : List ℕ) (x : ℕ) : Type 0 where
   pub below : x < p.c
   pub stays : not (member x gone) ≡ true
-  pub least : (y : ℕ) → y < p.c → not (member y gone) ≡ true → held_count (λ z. not (member z gone)) p.rows x ≤ held_count (λ z. not (member z gone)) p.rows y
-  pub choice : (y : ℕ) → y < p.c → not (member y gone) ≡ true → held_count (λ z. not (member z gone)) p.rows y ≡ held_count (λ z. not (member z gone)) p.rows x
+  pub least : (y : ℕ) → y < p.c → not (member y gone) ≡ true → held_count (λ z. not (member z gone)) p.ballots x ≤ held_count (λ z. not (member z gone)) p.ballots y
+  pub choice : (y : ℕ) → y < p.c → not (member y gone) ≡ true → held_count (λ z. not (member z gone)) p.ballots y ≡ held_count (λ z. not (member z gone)) p.ballots x
       → GoesFirst against x y
 
 place_at : (against : Option ℕ) (p : Poll) (order : List ℕ) (i : ℕ) → IsOrderBy against p order → i < p.c → IsPlace against p (take i order) (get_or order i 0)

@@ -33,7 +33,7 @@ left_after order i = λ x. not (member x (take i order))
 pub record IsLegalOrder (p : Poll) (order : List ℕ) : Type 0 where
   pub whole : IsOrder p.c order
   pub least : (i y : ℕ) → i < p.c → y < p.c → left_after order i y ≡ true
-      → held_count (left_after order i) p.rows (slice_index order i) ≤ held_count (left_after order i) p.rows y
+      → held_count (left_after order i) p.ballots (slice_index order i) ≤ held_count (left_after order i) p.ballots y
 
 -- of two with equal counts x goes before y: the higher-numbered, but the one that the choice is against before all others
 abbrev pub GoesFirst : Option ℕ → ℕ → ℕ → Type 0
@@ -44,7 +44,7 @@ GoesFirst (Some against) x y = (x ≡ against) ⊎ ((y ≡ against → ⊥) × (
 pub record IsOrderBy (against : Option ℕ) (p : Poll) (order : List ℕ) : Type 0 where
   pub legal : IsLegalOrder p order
   pub choice : (i y : ℕ) → i < p.c → y < p.c → left_after order i y ≡ true
-      → held_count (left_after order i) p.rows y ≡ held_count (left_after order i) p.rows (slice_index order i)
+      → held_count (left_after order i) p.ballots y ≡ held_count (left_after order i) p.ballots (slice_index order i)
       → GoesFirst against (slice_index order i) y
 
 -- the last of the order: it wins

@@ -47,10 +47,10 @@ pub record IsPart (against : Option ℕ) (p : Poll) (order : List ℕ) (standing
   pub some : count_to p.c (stands standing) + length order ≡ p.c
   pub first : (i y : ℕ) → i < length order → y < p.c → left_after order i y ≡ true
       → (y ≡ slice_index order i)
-      ⊎ Goes against (held_count (left_after order i) p.rows (slice_index order i)) (slice_index order i) (held_count (left_after order i) p.rows y) y
+      ⊎ Goes against (held_count (left_after order i) p.ballots (slice_index order i)) (slice_index order i) (held_count (left_after order i) p.ballots y) y
 
 -- at each of the first i places goes one of the least, and the set of bits is that of those who are left
 pub record IsLegalTo (p : Poll) (order : List ℕ) (standing i : ℕ) : Type 0 where
   pub set : AreBitsOf p.c (left_after order i) standing
   pub least : (k y : ℕ) → k < i → y < p.c → left_after order k y ≡ true
-      → held_count (left_after order k) p.rows (slice_index order k) ≤ held_count (left_after order k) p.rows y
+      → held_count (left_after order k) p.ballots (slice_index order k) ≤ held_count (left_after order k) p.ballots y

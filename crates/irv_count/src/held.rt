@@ -12,7 +12,7 @@ use ballot_form::{Cand, Roll};
 pub fn held_counts(roll: &Roll, standing: u64, counts: &mut [u32])
     requires size { length counts.old ≡ roll.now.c }
     requires set { standing < 2 ^ roll.now.c }
-    ensures held { EachIndex counts.new (λ x. slice_index counts.new x ≡ held_count (stands standing) roll.now.rows x) }
+    ensures held { EachIndex counts.new (λ x. slice_index counts.new x ≡ held_count (stands standing) roll.now.ballots x) }
     ensures others { EachIndex counts.new (λ x. stands standing x ≡ false → slice_index counts.new x ≡ 0) }
 {
     counts.fill(0);

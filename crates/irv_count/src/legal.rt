@@ -38,7 +38,7 @@ fn is_least_held(roll: &Roll, standing: u64, counts: &mut [u32], out: Cand) -> b
     requires few { roll.now.c ≤ 12 }
     requires set { standing < 2 ^ roll.now.c }
     requires below { out < roll.now.c }
-    ensures { IsTrue result ↔ IsLeast (held_count (stands standing) roll.now.rows) standing roll.now.c out }
+    ensures { IsTrue result ↔ IsLeast (held_count (stands standing) roll.now.ballots) standing roll.now.c out }
 {
     held_counts(roll, standing, counts);
     is_least(counts, standing, out)

@@ -47,7 +47,7 @@ fn next_out(roll: &Roll, standing: u64, counts: &mut [u32], against: Option<Cand
     requires few { roll.now.c ≤ 12 }
     requires set { standing < 2 ^ roll.now.c }
     requires some { 0 < count_to roll.now.c (stands standing) }
-    ensures { IsOut against (held_count (stands standing) roll.now.rows) standing roll.now.c result }
+    ensures { IsOut against (held_count (stands standing) roll.now.ballots) standing roll.now.c result }
 {
     held_counts(roll, standing, counts);
     let Some(out) = first_of_least(counts, standing, against) else {

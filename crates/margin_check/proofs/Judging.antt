@@ -52,8 +52,8 @@ length_after i (row ∷ rows) (change ∷ changes) = by (change.0 == i) (length_
     by true e f = ap suc e
     by false e f = ap suc f
 
-pub as_many_after : (p altered : Poll) (changes : List (ℕ × List ℕ)) → altered ≡ after p changes → length altered.rows ≡ length p.rows
-as_many_after p altered changes is = ap (λ (q : Poll). length q.rows) is ∙ length_after 1 p.rows changes
+pub as_many_after : (p altered : Poll) (changes : List (ℕ × List ℕ)) → altered ≡ after p changes → length altered.ballots ≡ length p.ballots
+as_many_after p altered changes is = ap (λ (q : Poll). length q.ballots) is ∙ length_after 1 p.ballots changes
 
 -- ---- a bad replacement
 
@@ -113,7 +113,7 @@ second_fails P Q [] place all is = absurd is
 second_fails P Q (x ∷ xs) zero all is = λ h. is (All-head P x xs all, h)
 second_fails P Q (x ∷ xs) (suc place) all is = (is.0.1, second_fails P Q xs place (All-tail P x xs all) is.1)
 
-pub refuse_cut : (p : Poll) (cert : Cert) (t at line : ℕ) (end : End) (verdict : Verdict) → FirstParts 6 p cert → t ≡ level_of (length p.rows) cert.claim → end ≡ Stopped at
+pub refuse_cut : (p : Poll) (cert : Cert) (t at line : ℕ) (end : End) (verdict : Verdict) → FirstParts 6 p cert → t ≡ level_of (length p.ballots) cert.claim → end ≡ Stopped at
     → EndsAt (Answers cert.rule p cert.reported (root_goals cert.rule p.c cert.reported) (Cuts t)) 0 (cert_visits p cert) end
     → line ≡ tree_line (length cert.puts) cert.claim → verdict ≡ No reasons.CutFails (line + at) → Judges p cert verdict
 refuse_cut p cert t at line end verdict before level is ends line_is e =

@@ -33,13 +33,13 @@ length_from : (c low n : ℕ) (changes : List (ℕ × List ℕ)) → low ≤ n +
 length_from c low n [] le is = omega arith
 length_from c low n (change ∷ changes) le is = omega (arith, is.0, is.1, length_from c (change.0 + 1) n changes (omega (arith, is.1)) is.3)
 
-unturnable : (p : Poll) (reported : Outcome) (tree : Plain) → IsReported Plurality p reported → Proves Plurality p reported (root_goals Plurality p.c reported) (length p.rows + 1) Root [] tree → IsUnturnable Plurality p
+unturnable : (p : Poll) (reported : Outcome) (tree : Plain) → IsReported Plurality p reported → Proves Plurality p reported (root_goals Plurality p.c reported) (length p.ballots + 1) Root [] tree → IsUnturnable Plurality p
 unturnable p reported tree is proved changes ok turns =
-    let few = length_from p.c 1 (length p.rows) changes (omega arith) ok in
-    none_below p reported (length p.rows + 1) tree is proved changes ok (omega (arith, few)) turns
+    let few = length_from p.c 1 (length p.ballots) changes (omega arith) ok in
+    none_below p reported (length p.ballots + 1) tree is proved changes ok (omega (arith, few)) turns
 
 turned : (p : Poll) (reported : Outcome) (text : Option GoalText) (changes : List (ℕ × List ℕ)) (k : ℕ) → IsReported Plurality p reported → IsAlteration p changes → length changes ≡ k
-    → IsMet Plurality p.c reported (root_goals Plurality p.c reported) text (after p changes).rows → TurnsBy Plurality p changes k
+    → IsMet Plurality p.c reported (root_goals Plurality p.c reported) text (after p changes).ballots → TurnsBy Plurality p changes k
 turned p reported text changes k is ok many met = record { alteration = ok; many = many; turned = (turning p reported changes is).1 (met.0, met.2, met.3) }
 
 many_puts : (c k : ℕ) (claim : Claim) (text : Option GoalText) (puts : List Put) → claim ≡ Margin k → BodyFits c claim text puts → length (pairs_of puts) ≡ k
@@ -49,8 +49,8 @@ many_puts c k claim (Some goal) puts is body =
     length-map puts (λ put. (put.number, put.ballot)) ∙ fits.1
 
 says : (p : Poll) (c : ℕ) (reported : Outcome) (claim : Claim) (text : Option GoalText) (puts : List Put) (tree : Plain) → IsReported Plurality p reported → IsAlteration p (pairs_of puts)
-    → ClaimHolds Plurality p.c reported (root_goals Plurality p.c reported) claim text (after p (pairs_of puts)).rows
-    → Proves Plurality p reported (root_goals Plurality p.c reported) (level_of (length p.rows) claim) Root [] tree → HasOrder claim → BodyFits c claim text puts → SaysOf Plurality p (pairs_of puts) claim
+    → ClaimHolds Plurality p.c reported (root_goals Plurality p.c reported) claim text (after p (pairs_of puts)).ballots
+    → Proves Plurality p reported (root_goals Plurality p.c reported) (level_of (length p.ballots) claim) Root [] tree → HasOrder claim → BodyFits c claim text puts → SaysOf Plurality p (pairs_of puts) claim
 says p c reported (Margin k) text puts tree is ok holds proved order body =
     let by = turned p reported text (pairs_of puts) k is ok (many_puts c k (Margin k) text puts refl body) holds in
     (record { turned = (pairs_of puts, by.alteration, by.many, by.turned); least = none_below p reported k tree is proved }, by)
@@ -63,12 +63,12 @@ says p c reported (Bounds low up stop) text puts tree is ok holds proved order b
 
 pub claim_is_true : (p : Poll) (cert : Cert) → IsPrintable cert → cert.rule ≡ Plurality → IsValidCert p cert → ClaimIsTrue p cert
 claim_is_true p cert printable is valid =
-    let proved = to_proves cert.rule p cert.reported (root_goals cert.rule p.c cert.reported) (level_of (length p.rows) cert.claim) cert.tree Root [] valid.shape valid.cuts in
+    let proved = to_proves cert.rule p cert.reported (root_goals cert.rule p.c cert.reported) (level_of (length p.ballots) cert.claim) cert.tree Root [] valid.shape valid.cuts in
     subst (λ r. SaysOf r p (pairs_of cert.puts) cert.claim) (sym is)
     (says p cert.c cert.reported cert.claim cert.goal cert.puts cert.tree
     (subst (λ r. IsReported r p cert.reported) is valid.reported)
     valid.alteration
-    (subst (λ r. ClaimHolds r p.c cert.reported (root_goals r p.c cert.reported) cert.claim cert.goal (after p (pairs_of cert.puts)).rows) is valid.claim)
-    (subst (λ r. Proves r p cert.reported (root_goals r p.c cert.reported) (level_of (length p.rows) cert.claim) Root [] cert.tree) is proved)
+    (subst (λ r. ClaimHolds r p.c cert.reported (root_goals r p.c cert.reported) cert.claim cert.goal (after p (pairs_of cert.puts)).ballots) is valid.claim)
+    (subst (λ r. Proves r p cert.reported (root_goals r p.c cert.reported) (level_of (length p.ballots) cert.claim) Root [] cert.tree) is proved)
     valid.numbers
     printable.body)

@@ -48,14 +48,14 @@ keyed_few key rows =
     omega (arith, e, f, g)
 
 pub room_for : (rule : Rule) (p : Poll) (reported : Outcome) (goal : Goal) (classes : List (ℕ × ℕ)) (sums : List ℤ) (ballots : ℕ) (lone : ℤ) (kinds : List (List ℕ × ℕ)) (room : ℕ)
-    → kinds ≡ classes_of bytes_eq p.rows → IsGroundOf rule p reported goal classes sums ballots lone → length kinds ≤ room → length classes ≤ room
+    → kinds ≡ classes_of bytes_eq p.ballots → IsGroundOf rule p reported goal classes sums ballots lone → length kinds ≤ room → length classes ≤ room
 room_for rule p reported Root classes sums ballots lone kinds room are is enough =
     let e : length classes ≡ 0 = ap length is.classes_are in
     omega (arith, e)
 room_for rule p reported (Pair g l) classes sums ballots lone kinds room are is enough =
-    let e : length classes ≡ length (classes_of nat_eq (map (pair_key rule p.c reported g l) p.rows)) = ap length is.classes_are in
-    let f = keyed_few (pair_key rule p.c reported g l) p.rows in
-    let k : length kinds ≡ length (classes_of bytes_eq p.rows) = ap length are in
+    let e : length classes ≡ length (classes_of nat_eq (map (pair_key rule p.c reported g l) p.ballots)) = ap length is.classes_are in
+    let f = keyed_few (pair_key rule p.c reported g l) p.ballots in
+    let k : length kinds ≡ length (classes_of bytes_eq p.ballots) = ap length are in
     omega (arith, e, f, k, enough)
 
 -- ---- the node of a goal that is reached
@@ -85,12 +85,12 @@ node_of rule p kinds reported roots goal node is poll race reached same values =
 }
 
 -- beyond one more than there are ballots the test is the one there
-pub cut_within : (rule : Rule) (p : Poll) (reported : Outcome) (at goal : Goal) (given multipliers : List ℕ) (t within ballots : ℕ) (b : Bool) → at ≡ goal → given ≡ multipliers → ballots ≡ length p.rows
+pub cut_within : (rule : Rule) (p : Poll) (reported : Outcome) (at goal : Goal) (given multipliers : List ℕ) (t within ballots : ℕ) (b : Bool) → at ≡ goal → given ≡ multipliers → ballots ≡ length p.ballots
     → within ≡ min t (ballots + 1) → (IsTrue b ↔ Cuts rule p reported at [] given within) → IsTrue b ↔ Cuts rule p reported goal [] multipliers t
 cut_within rule p reported at goal given multipliers t within ballots b same lent many is test =
-    let e : min within (length p.rows + 1) ≡ min t (length p.rows + 1) = omega (arith, many, is) in
+    let e : min within (length p.ballots + 1) ≡ min t (length p.ballots + 1) = omega (arith, many, is) in
     let f : Cuts rule p reported at [] given within ≡ Cuts rule p reported goal [] multipliers t =
-    ap (λ n. CutsKept p.c p.rows (kept_of rule p reported at []) given n) e ∙ ap (λ g. Cuts rule p reported g [] given t) same
+    ap (λ n. CutsKept p.c p.ballots (kept_of rule p reported at []) given n) e ∙ ap (λ g. Cuts rule p reported g [] given t) same
     ∙ ap (λ ms. Cuts rule p reported goal [] ms t) lent in
     subst (λ (X : Type 0). IsTrue b ↔ X) f test
 

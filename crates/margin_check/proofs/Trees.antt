@@ -134,7 +134,7 @@ module _ (rule : Rule) (p : Poll) (reported : Outcome) (roots : List Goal) (t : 
   )
 
   -- ---- what is proved is so: no short list of changes makes a complete goal hold
-  module _ (changes : List (ℕ × List ℕ)) (met : Goal) (ok : IsAlteration p changes) (short : length changes < t) (holds : Holds (rows_of rule p.c reported met) (after p changes).rows)
+  module _ (changes : List (ℕ × List ℕ)) (met : Goal) (ok : IsAlteration p changes) (short : length changes < t) (holds : Holds (rows_of rule p.c reported met) (after p changes).ballots)
       (complete : IsComplete roots met) where
     among : IsComplete roots met → Contains roots met
     among = by met
@@ -144,7 +144,7 @@ module _ (rule : Rule) (p : Poll) (reported : Outcome) (roots : List Goal) (t : 
         by (Pair g l) h = h
 
     mutual
-      refutes : (node : Plain) (goal : Goal) → Proves rule p reported roots t goal [] node → Holds (rows_of rule p.c reported goal) (after p changes).rows → ⊥
+      refutes : (node : Plain) (goal : Goal) → Proves rule p reported roots t goal [] node → Holds (rows_of rule p.c reported goal) (after p changes).ballots → ⊥
       refutes (Split kids) Root proved way =
           let same : roots ≡ proved.1.0 = cc (proved.1.1) in
           refutes_all kids proved.1.0 proved.1.2 (subst (λ gs. Contains gs met) same (among complete))
@@ -157,8 +157,8 @@ module _ (rule : Rule) (p : Poll) (reported : Outcome) (roots : List Goal) (t : 
       refutes_all tree.None (goal ∷ goals) proved there = proved
       refutes_all (tree.More kid kids) [] proved there = proved
       refutes_all (tree.More kid kids) (goal ∷ goals) proved (zero, lt, e) =
-          refutes kid goal proved.0 (subst (λ g. Holds (rows_of rule p.c reported g) (after p changes).rows) (sym e) holds)
+          refutes kid goal proved.0 (subst (λ g. Holds (rows_of rule p.c reported g) (after p changes).ballots) (sym e) holds)
       refutes_all (tree.More kid kids) (goal ∷ goals) proved (suc k, lt, e) = refutes_all kids goals proved.1 (k, omega (arith, lt), e)
 
     pub refuted : (node : Plain) → Proves rule p reported roots t Root [] node → ⊥
-    refuted node proved = refutes node Root proved (All-nil (λ weight. pos 0 ≤ℤ sum_z weight (after p changes).rows))
+    refuted node proved = refutes node Root proved (All-nil (λ weight. pos 0 ≤ℤ sum_z weight (after p changes).ballots))

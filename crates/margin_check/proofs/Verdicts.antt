@@ -49,7 +49,7 @@ part_of NumbersDisagree p cert is valid = valid.numbers
 
 -- ---- a part that fails doesn't hold, and fails in one line
 
-faultless_from : (p : Poll) (at last : ℕ) (puts : List Put) → IsAlterationFrom p.c (last + 1) (length p.rows) (pairs_of puts) → IsFirstFaultFrom p at last puts None
+faultless_from : (p : Poll) (at last : ℕ) (puts : List Put) → IsAlterationFrom p.c (last + 1) (length p.ballots) (pairs_of puts) → IsFirstFaultFrom p at last puts None
 faultless_from p at last [] is = tt
 faultless_from p at last (put ∷ puts) is = ((omega (arith, is.0), is.1, omega (arith, is.0), is.2), faultless_from p (at + 1) put.number puts is.3)
 
@@ -77,7 +77,7 @@ failing ReportedDiffers p cert line fails part = fails.0 part
 failing BadAlteration p cert line fails part = no_fault p cert.puts fails.0 part fails.1
 failing ClaimFails p cert line fails part = fails.0 part
 failing ShapeDiffers p cert line fails part = not_all (IsShaped cert.rule p.c cert.reported (root_goals cert.rule p.c cert.reported)) (cert_visits p cert) fails.0 fails.1 part
-failing CutFails p cert line fails part = not_all (Passes cert.rule p cert.reported (level_of (length p.rows) cert.claim)) (cert_visits p cert) fails.0 fails.1 part
+failing CutFails p cert line fails part = not_all (Passes cert.rule p cert.reported (level_of (length p.ballots) cert.claim)) (cert_visits p cert) fails.0 fails.1 part
 failing NumbersDisagree p cert line fails part = fails.0 part
 
 one_line : (reason : Reason) (p : Poll) (cert : Cert) (line other : ℕ) → Fails reason p cert line → Fails reason p cert other → line ≡ other
@@ -92,7 +92,7 @@ one_line ClaimFails p cert line other a b = omega (arith, a.1, b.1)
 one_line ShapeDiffers p cert line other a b =
     omega (arith, a.2, b.2, one_place (IsShaped cert.rule p.c cert.reported (root_goals cert.rule p.c cert.reported)) (cert_visits p cert) a.0 b.0 a.1 b.1)
 one_line CutFails p cert line other a b =
-    omega (arith, a.2, b.2, one_place (Passes cert.rule p cert.reported (level_of (length p.rows) cert.claim)) (cert_visits p cert) a.0 b.0 a.1 b.1)
+    omega (arith, a.2, b.2, one_place (Passes cert.rule p cert.reported (level_of (length p.ballots) cert.claim)) (cert_visits p cert) a.0 b.0 a.1 b.1)
 one_line NumbersDisagree p cert line other a b = omega (arith, a.1, b.1)
 
 -- ---- one verdict

@@ -19,7 +19,7 @@ use Rattle.margin_check.specs.Visits.{Visit, visits}
 
 -- the certificate has the contest's numbers of candidates and of ballots
 abbrev pub HasSizes : Poll → Cert → Type 0
-HasSizes p cert = (cert.c ≡ p.c) × (cert.ballots ≡ length p.rows)
+HasSizes p cert = (cert.c ≡ p.c) × (cert.ballots ≡ length p.ballots)
 
 -- the goal that a certificate names. An order and a cover are goals of other rules, which aren't there yet: they name none
 abbrev pub named_goal : Option GoalText → Option Goal
@@ -57,13 +57,13 @@ cert_visits p cert = visits (root_goals cert.rule p.c cert.reported) goals.Root 
 
 -- the parts of validity, in order
 abbrev pub IsTurned : Poll → Cert → Type 0
-IsTurned p cert = ClaimHolds cert.rule p.c cert.reported (root_goals cert.rule p.c cert.reported) cert.claim cert.goal (after p (pairs_of cert.puts)).rows
+IsTurned p cert = ClaimHolds cert.rule p.c cert.reported (root_goals cert.rule p.c cert.reported) cert.claim cert.goal (after p (pairs_of cert.puts)).ballots
 
 abbrev pub HasShape : Poll → Cert → Type 0
 HasShape p cert = All (IsShaped cert.rule p.c cert.reported (root_goals cert.rule p.c cert.reported)) (cert_visits p cert)
 
 abbrev pub HasCuts : Poll → Cert → Type 0
-HasCuts p cert = All (Passes cert.rule p cert.reported (level_of (length p.rows) cert.claim)) (cert_visits p cert)
+HasCuts p cert = All (Passes cert.rule p cert.reported (level_of (length p.ballots) cert.claim)) (cert_visits p cert)
 
 -- a certificate that is valid for a contest
 pub record IsValidCert (p : Poll) (cert : Cert) : Type 0 where

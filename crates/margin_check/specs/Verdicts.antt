@@ -101,7 +101,7 @@ Fails ShapeDiffers p cert line = (number : ℕ)
     × IsFirstWithout (IsShaped cert.rule p.c cert.reported (root_goals cert.rule p.c cert.reported)) (cert_visits p cert) number
     × (line ≡ node_line cert number)
 Fails CutFails p cert line = (number : ℕ)
-    × IsFirstWithout (Passes cert.rule p cert.reported (level_of (length p.rows) cert.claim)) (cert_visits p cert) number
+    × IsFirstWithout (Passes cert.rule p cert.reported (level_of (length p.ballots) cert.claim)) (cert_visits p cert) number
     × (line ≡ node_line cert number)
 Fails NumbersDisagree p cert line = (HasOrder cert.claim → ⊥) × (line ≡ 5)
 

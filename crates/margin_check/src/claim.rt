@@ -43,8 +43,8 @@ pub(crate) fn claim_holds(
 ) -> bool
     requires plurality { race.now.rule ≡ Plurality }
     requires same_sizes { altered.now.c ≡ race.now.roll.now.c }
-    requires same_length { length altered.now.rows ≡ length race.now.roll.now.rows }
-    ensures { IsTrue result ↔ ClaimHolds race.now.rule race.now.roll.now.c race.now.reported race.now.roots claim text.now altered.now.rows }
+    requires same_length { length altered.now.ballots ≡ length race.now.roll.now.ballots }
+    ensures { IsTrue result ↔ ClaimHolds race.now.rule race.now.roll.now.c race.now.reported race.now.roots claim text.now altered.now.ballots }
 {
     match claim {
         Claim::Margin(_) => is_met(race, altered, text),
@@ -58,8 +58,8 @@ pub(crate) fn claim_holds(
 fn is_met(race: &Race<'_>, altered: &Roll, text: &Option<GoalText>) -> bool
     requires plurality { race.now.rule ≡ Plurality }
     requires same_sizes { altered.now.c ≡ race.now.roll.now.c }
-    requires same_length { length altered.now.rows ≡ length race.now.roll.now.rows }
-    ensures { IsTrue result ↔ IsMet race.now.rule race.now.roll.now.c race.now.reported race.now.roots text.now altered.now.rows }
+    requires same_length { length altered.now.ballots ≡ length race.now.roll.now.ballots }
+    ensures { IsTrue result ↔ IsMet race.now.rule race.now.roll.now.c race.now.reported race.now.roots text.now altered.now.ballots }
 {
     match text {
         None => false,
@@ -75,8 +75,8 @@ fn is_met(race: &Race<'_>, altered: &Roll, text: &Option<GoalText>) -> bool
 fn goal_is_met(race: &Race<'_>, altered: &Roll, goal: &Goal) -> bool
     requires plurality { race.now.rule ≡ Plurality }
     requires same_sizes { altered.now.c ≡ race.now.roll.now.c }
-    requires same_length { length altered.now.rows ≡ length race.now.roll.now.rows }
-    ensures { IsTrue result ↔ (IsComplete race.now.roots goal.now × Holds (rows_of race.now.rule race.now.roll.now.c race.now.reported goal.now) altered.now.rows) }
+    requires same_length { length altered.now.ballots ≡ length race.now.roll.now.ballots }
+    ensures { IsTrue result ↔ (IsComplete race.now.roots goal.now × Holds (rows_of race.now.rule race.now.roll.now.c race.now.reported goal.now) altered.now.ballots) }
 {
     let mut scratch = [0i64; MOST_ROWS];
     is_complete(race, goal) && rows_hold(race, altered, goal, &mut scratch)

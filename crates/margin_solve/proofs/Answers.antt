@@ -32,23 +32,23 @@ few_enough a b k h = omega (arith, h.enough, h.none_spare)
 nearest_of : (p : Poll) (scores : List ℕ) (x g k : ℕ) → AreScores plurality_points p scores → x < p.c → IsNearestByScores scores x g k → IsNearest p x g k
 nearest_of p scores x g k are stands near =
     let size = are.one_each in
-    let own : slice_index scores x ≡ score_of plurality_points p.rows x = are.each x stands in
-    let at : (j : ℕ) → j < p.c → slice_index scores x - slice_index scores j ≡ deficit_of (points_for j) (points_for x) p.rows = λ j lt. rw (own, are.each j lt) refl in
+    let own : slice_index scores x ≡ score_of plurality_points p.ballots x = are.each x stands in
+    let at : (j : ℕ) → j < p.c → slice_index scores x - slice_index scores j ≡ deficit_of (points_for j) (points_for x) p.ballots = λ j lt. rw (own, are.each j lt) refl in
     let below : g < p.c = omega (arith, near.stands) in
     record {
       stands = below;
       other = near.other;
-      reached = reaches_twice g x k p.rows near.other (subst (λ n. k ≤ n) own (few_enough _ _ _ near.number)) (subst (λ n. n ≤ 2 * k) (at g below) near.number.enough);
-      fewest = λ j i lt differ reached. no_fewer _ i k (twice_reaches j x i p.rows reached)
+      reached = reaches_twice g x k p.ballots near.other (subst (λ n. k ≤ n) own (few_enough _ _ _ near.number)) (subst (λ n. n ≤ 2 * k) (at g below) near.number.enough);
+      fewest = λ j i lt differ reached. no_fewer _ i k (twice_reaches j x i p.ballots reached)
           (λ m h. near.fewest j m (omega (arith, lt)) differ (subst (λ n. IsHalfUp n m) (sym (at j lt)) h));
       lowest = λ j i lt differ reached.
           let lt' : j < p.c = omega (arith, lt, below) in
-          no_fewer _ i (suc k) (twice_reaches j x i p.rows reached)
+          no_fewer _ i (suc k) (twice_reaches j x i p.ballots reached)
           (λ m h. near.lowest j m lt differ (subst (λ n. IsHalfUp n m) (sym (at j lt')) h));
     }
 
 pub nearest_found : (p : Poll) (scores numbers : List ℕ) (x g k : ℕ) → AreScores plurality_points p scores → IsLowestWithGreatest plurality_points p x → IsNearestByScores scores x g k
-    → numbers ≡ first_led x 1 k p.rows → IsPluralityMargin p x g numbers
+    → numbers ≡ first_led x 1 k p.ballots → IsPluralityMargin p x g numbers
 nearest_found p scores numbers x g k are is near e =
-    let own : slice_index scores x ≡ score_of plurality_points p.rows x = are.each x is.greatest.stands in
+    let own : slice_index scores x ≡ score_of plurality_points p.ballots x = are.each x is.greatest.stands in
     rw e (margin_of_chosen p x g k is (nearest_of p scores x g k are is.greatest.stands near) (subst (λ n. k ≤ n) own (few_enough _ _ _ near.number)))

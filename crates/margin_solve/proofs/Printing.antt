@@ -94,7 +94,7 @@ small_tree c (suc k) few = omega (arith, sizes_are (c - 1))
 
 -- ---- certificates
 pub count_few : (p : Poll) (x g : ℕ) (numbers : List ℕ) → IsPoll p → IsPluralityMargin p x g numbers → length numbers ≤ 1000000
-count_few p x g numbers poll is = omega (arith, few p.c 1 (length p.rows) g numbers is.cheapest.alteration, poll.few)
+count_few p x g numbers poll is = omega (arith, few p.c 1 (length p.ballots) g numbers is.cheapest.alteration, poll.few)
 
 -- what is claimed, and what stands below it
 record BodyIs (c : ℕ) (claim : Claim) (goal : Option GoalText) (puts : List Put) (tree : Plain) : Type 0 where
@@ -120,7 +120,7 @@ body_is p x (Margin k) goal puts tree poll stands found =
     let n = count_few p x g numbers poll is in
     let own : g ≤ 255 = omega (arith, is.cheapest.nearest.stands, poll.most) in
     let fits : TurnFits p.c k (Some (Pair g x)) (claimed g numbers) =
-    ((own, omega (arith, stands, poll.most)), length-map numbers (λ m. record { number = m; ballot = g ∷ [] }) ∙ sym found.3, fit p.c 1 (length p.rows) g numbers poll.few own is.cheapest.alteration) in
+    ((own, omega (arith, stands, poll.most)), length-map numbers (λ m. record { number = m; ballot = g ∷ [] }) ∙ sym found.3, fit p.c 1 (length p.ballots) g numbers poll.few own is.cheapest.alteration) in
     record {
       claim_fits = omega (arith, n, found.3);
       body_fits = subst (λ o. TurnFits p.c k o puts) (sym found.4) (subst (TurnFits p.c k (Some (Pair g x))) (sym found.5) fits);

@@ -39,7 +39,7 @@ IsFound p x (Bounds low up stop) goal puts tree = ⊥
 pub record IsCertFor (p : Poll) (x : ℕ) (cert : Cert) : Type 0 where
   pub rule : cert.rule ≡ Plurality
   pub candidates : cert.c ≡ p.c
-  pub ballots : cert.ballots ≡ length p.rows
+  pub ballots : cert.ballots ≡ length p.ballots
   pub outcome : cert.reported ≡ Winner x
   pub reported : IsReported Plurality p (Winner x)
   pub found : IsFound p x cert.claim cert.goal cert.puts cert.tree

@@ -98,7 +98,7 @@ fn lacking(scores: &[u64], winner: Cand, challenger: Cand) -> u64
 
 /// The numbers of the first `count` ballots that the candidate leads.
 fn led_by(alloc: Global, roll: &Roll, x: Cand, count: u64) -> Result<NumberList, Memory>
-    ensures { IfOk result (λ numbers. numbers ≡ first_led x 1 count roll.now.rows) }
+    ensures { IfOk result (λ numbers. numbers ≡ first_led x 1 count roll.now.ballots) }
 {
     let mut numbers = Vec::with_capacity(alloc, count as usize)?;
     for i in 0..roll.len() {
@@ -114,8 +114,8 @@ fn led_by(alloc: Global, roll: &Roll, x: Cand, count: u64) -> Result<NumberList,
 
 /// Whether the candidate leads the ballot with the number `i + 1`.
 fn leads(roll: &Roll, x: Cand, i: u32) -> bool
-    requires { i < length roll.now.rows }
-    ensures { result ≡ is_first (slice_index_or roll.now.rows i []) x }
+    requires { i < length roll.now.ballots }
+    ensures { result ≡ is_first (slice_index_or roll.now.ballots i []) x }
 {
     roll.first(i) == Some(x)
 }

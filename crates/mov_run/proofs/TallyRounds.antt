@@ -18,10 +18,10 @@ field_same s t f h x one other = rw (one, other) refl
 
 -- the round by the bits of those who are left
 pub round_same : (p : Poll) (order : List ℕ) (standing i out : ℕ) → IsPoll p → AreBitsOf p.c (left_after order i) standing → out ≡ get_or order i 0
-    → round_text p.c (stands standing) (held_count (stands standing) p.rows) i out ≡ round_of p order i
+    → round_text p.c (stands standing) (held_count (stands standing) p.ballots) i out ≡ round_of p order i
 round_same p order standing i out is set at =
-    let fields : map (held_field (stands standing) (held_count (stands standing) p.rows)) (range_with_len 0 p.c) ≡ map (held_field (left_after order i) (held_count (left_after order i) p.rows)) (range_with_len 0 p.c) =
-    map_same (held_field (stands standing) (held_count (stands standing) p.rows)) (held_field (left_after order i) (held_count (left_after order i) p.rows)) 0 p.c (λ x lo hi. field_same (stands standing) (left_after order i) (held_count (stands standing) p.rows) (held_count (left_after order i) p.rows) x (set.bits x (omega (arith, hi))) (held_by_bits (left_after order i) p.c standing p.rows x is.valid set)) in
+    let fields : map (held_field (stands standing) (held_count (stands standing) p.ballots)) (range_with_len 0 p.c) ≡ map (held_field (left_after order i) (held_count (left_after order i) p.ballots)) (range_with_len 0 p.c) =
+    map_same (held_field (stands standing) (held_count (stands standing) p.ballots)) (held_field (left_after order i) (held_count (left_after order i) p.ballots)) 0 p.c (λ x lo hi. field_same (stands standing) (left_after order i) (held_count (stands standing) p.ballots) (held_count (left_after order i) p.ballots) x (set.bits x (omega (arith, hi))) (held_by_bits (left_after order i) p.c standing p.ballots x is.valid set)) in
     rw (fields, at) refl
 
 pub rounds_counted : (p : Poll) (order text : List ℕ) (x i : ℕ) → IsOrderBy None p order → i + 1 ≡ p.c → x ≡ get_or order i 0

@@ -14,9 +14,9 @@ score_same : (f h : ℕ → ℕ) (x : ℕ) → f x ≡ h x → score_text f x �
 score_same f h x same = rw same refl
 
 scores_same : (points : List ℕ → ℕ → ℕ) (p : Poll) (scores : List ℕ) → AreScores points p scores
-    → scores_text (length scores) (λ x. slice_index scores x) ≡ scores_text p.c (score_of points p.rows)
+    → scores_text (length scores) (λ x. slice_index scores x) ≡ scores_text p.c (score_of points p.ballots)
 scores_same points p scores are =
-    ap (λ c. scores_text c (λ x. slice_index scores x)) are.one_each ∙ each_same (score_text (λ x. slice_index scores x)) (score_text (score_of points p.rows)) 0 p.c (λ x lo hi. score_same (λ y. slice_index scores y) (score_of points p.rows) x (are.each x (omega (arith, hi))))
+    ap (λ c. scores_text c (λ x. slice_index scores x)) are.one_each ∙ each_same (score_text (λ x. slice_index scores x)) (score_text (score_of points p.ballots)) 0 p.c (λ x lo hi. score_same (λ y. slice_index scores y) (score_of points p.ballots) x (are.each x (omega (arith, hi))))
 
 plurality_counted : (p : Poll) (scores text : List ℕ) (x : ℕ) → AreScores plurality_points p scores → IsScoreWinner scores x
     → text ≡ scores_text (length scores) (λ y. slice_index scores y) ++ reported_text (Winner x) → IsCounted Plurality p text

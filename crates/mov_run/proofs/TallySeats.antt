@@ -10,14 +10,14 @@ use Rattle.dhondt_seats.specs.Seats.{reported_seats, votes_of}
 use Rattle.mov_run.specs.Tally.{IsCounted, party_text, reported_text, seats_text}
 use Rattle.mov_run.proofs.Ranges.{each_same}
 
-votes_at : (p : Poll) (a : ℕ) → a < p.c → slice_index (votes_of p) a ≡ first_count p.rows a
-votes_at p a lt = get_or-map-range_with_len (first_count p.rows) 0 p.c a a 0 lt (omega arith)
+votes_at : (p : Poll) (a : ℕ) → a < p.c → slice_index (votes_of p) a ≡ first_count p.ballots a
+votes_at p a lt = get_or-map-range_with_len (first_count p.ballots) 0 p.c a a 0 lt (omega arith)
 
 party_same : (f h seats : ℕ → ℕ) (a : ℕ) → f a ≡ h a → party_text f seats a ≡ party_text h seats a
 party_same f h seats a same = rw same refl
 
-seats_same : (p : Poll) (seats : ℕ → ℕ) → seats_text p.c (λ a. slice_index (votes_of p) a) seats ≡ seats_text p.c (first_count p.rows) seats
-seats_same p seats = each_same (party_text (λ a. slice_index (votes_of p) a) seats) (party_text (first_count p.rows) seats) 0 p.c (λ a lo hi. party_same (λ b. slice_index (votes_of p) b) (first_count p.rows) seats a (votes_at p a (omega (arith, hi))))
+seats_same : (p : Poll) (seats : ℕ → ℕ) → seats_text p.c (λ a. slice_index (votes_of p) a) seats ≡ seats_text p.c (first_count p.ballots) seats
+seats_same p seats = each_same (party_text (λ a. slice_index (votes_of p) a) seats) (party_text (first_count p.ballots) seats) 0 p.c (λ a lo hi. party_same (λ b. slice_index (votes_of p) b) (first_count p.ballots) seats a (votes_at p a (omega (arith, hi))))
 
 seats_counted : (p : Poll) (s : ℕ) (votes shares text : List ℕ) → length votes ≡ p.c → votes ≡ votes_of p → shares ≡ reported_seats votes s
     → text ≡ seats_text (length votes) (λ a. slice_index votes a) (λ a. slice_index shares a) ++ reported_text (Seats shares) → IsCounted (Dhondt s) p text
@@ -28,7 +28,7 @@ seats_counted p s votes shares text long votes_are shares_are lines = record {
       ap (λ c. seats_text c (λ a. slice_index votes a) (λ a. slice_index shares a)) long
       ∙ ap (λ v. seats_text p.c (λ a. slice_index v a) (λ a. slice_index shares a)) votes_are
       ∙ seats_same p (λ a. slice_index shares a)
-      ∙ ap (λ r. seats_text p.c (first_count p.rows) (λ a. slice_index r a)) (shares_are ∙ ap (λ v. reported_seats v s) votes_are);
+      ∙ ap (λ r. seats_text p.c (first_count p.ballots) (λ a. slice_index r a)) (shares_are ∙ ap (λ v. reported_seats v s) votes_are);
   reported = shares_are ∙ ap (λ v. reported_seats v s) votes_are;
   lines = lines;
 }

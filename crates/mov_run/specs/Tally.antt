@@ -78,7 +78,7 @@ round_text c stands held i out =
 
 -- the line of the round in which the one at place i of the order goes out, those before it having gone
 abbrev pub round_of : Poll → List ℕ → ℕ → List ℕ
-round_of p order i = round_text p.c (left_after order i) (held_count (left_after order i) p.rows) i (slice_index order i)
+round_of p order i = round_text p.c (left_after order i) (held_count (left_after order i) p.ballots) i (slice_index order i)
 
 -- a line for each round, till one is left
 abbrev pub rounds_text : Poll → List ℕ → List ℕ
@@ -86,10 +86,10 @@ rounds_text p order = for_each 0 (p.c - 1) (round_of p order)
 
 -- the lines of what a rule counts: scores; pairs; votes and seats; the rounds of the reported order of elimination
 abbrev pub IsCountText : Rule → Poll → List ℕ → Type 0
-IsCountText Plurality p text = text ≡ scores_text p.c (score_of plurality_points p.rows)
-IsCountText Borda p text = text ≡ scores_text p.c (score_of (borda_points p.c) p.rows)
-IsCountText Condorcet p text = text ≡ pairs_text p.c (pref_of p.rows)
-IsCountText (Dhondt seats) p text = text ≡ seats_text p.c (first_count p.rows) (λ a. slice_index (reported_seats (votes_of p) seats) a)
+IsCountText Plurality p text = text ≡ scores_text p.c (score_of plurality_points p.ballots)
+IsCountText Borda p text = text ≡ scores_text p.c (score_of (borda_points p.c) p.ballots)
+IsCountText Condorcet p text = text ≡ pairs_text p.c (pref_of p.ballots)
+IsCountText (Dhondt seats) p text = text ≡ seats_text p.c (first_count p.ballots) (λ a. slice_index (reported_seats (votes_of p) seats) a)
 IsCountText Irv p text = (order : List ℕ) × IsOrderBy None p order × (text ≡ rounds_text p order)
 
 -- the lines of the count and of the reported outcome
@@ -102,7 +102,7 @@ pub record IsCounted (rule : Rule) (p : Poll) (text : List ℕ) : Type 0 where
 
 -- the lines above the count
 abbrev pub head_text : Rule → NamedPoll → List ℕ
-head_text rule k = rule_text rule ++ (line_text (codes "size" ∷ decimal k.poll.c ∷ decimal (length k.poll.rows) ∷ []) ++ names_text k.names)
+head_text rule k = rule_text rule ++ (line_text (codes "size" ∷ decimal k.poll.c ∷ decimal (length k.poll.ballots) ∷ []) ++ names_text k.names)
 
 -- the text of the tally of a contest under a rule
 pub record IsTally (rule : Rule) (k : NamedPoll) (text : List ℕ) : Type 0 where

@@ -58,7 +58,7 @@ fn push_round(
     requires size { length counts.old ≡ roll.now.c }
     requires few { roll.now.c ≤ 12 }
     requires set { standing < 2 ^ roll.now.c }
-    ensures { OnOk result (out.new.items ≡ out.old.items ++ round_text roll.now.c (stands standing) (held_count (stands standing) roll.now.rows) i gone) }
+    ensures { OnOk result (out.new.items ≡ out.old.items ++ round_text roll.now.c (stands standing) (held_count (stands standing) roll.now.ballots) i gone) }
 {
     held_counts(roll, standing, counts);
     push_gone(out, u64::from(i) + 1, u64::from(gone))?;

@@ -173,10 +173,10 @@ admitted_alike c f g o alike admitted = (
   admitted.2,
 )
 
-pub settled_exactly : (p : Poll) (t : Table) (o : Option ℕ) → ArePrefs p t → IsAdmittedOutcome t.c (count_in t) o ↔ IsAdmittedOutcome p.c (pref_of p.rows) o
+pub settled_exactly : (p : Poll) (t : Table) (o : Option ℕ) → ArePrefs p t → IsAdmittedOutcome t.c (count_in t) o ↔ IsAdmittedOutcome p.c (pref_of p.ballots) o
 settled_exactly p t o are = (
-  λ a. admitted_alike p.c (count_in t) (pref_of p.rows) o are.each (subst (λ c. IsAdmittedOutcome c (count_in t) o) are.candidates a),
-  λ a. let h : IsAdmittedOutcome p.c (count_in t) o = admitted_alike p.c (pref_of p.rows) (count_in t) o (λ x y xc yc. sym (are.each x y xc yc)) a in
+  λ a. admitted_alike p.c (count_in t) (pref_of p.ballots) o are.each (subst (λ c. IsAdmittedOutcome c (count_in t) o) are.candidates a),
+  λ a. let h : IsAdmittedOutcome p.c (count_in t) o = admitted_alike p.c (pref_of p.ballots) (count_in t) o (λ x y xc yc. sym (are.each x y xc yc)) a in
       subst (λ c. IsAdmittedOutcome c (count_in t) o) (sym are.candidates) h,
 )
 

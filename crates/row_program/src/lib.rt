@@ -7,10 +7,12 @@
 #![tactic(auto)]
 
 mod bounds;
+mod limits;
 mod points;
 mod program;
 
 pub use bounds::is_program;
+pub use limits::{MOST_KIDS, MOST_LIMITS};
 pub use points::{holds_at, point_cost};
 pub use program::{CostList, NumberList, Point, Program, Row, RowList, Term, TermList};
 

@@ -22,7 +22,7 @@ pub fn plurality(alloc: Global, roll: &Roll) -> Result<ScoreList, Memory>
 fn add_firsts(roll: &Roll, scores: &mut [u64])
     requires size { length scores.old ≡ roll.now.c }
     requires none { EachIndex scores.old (λ x. slice_index scores.old x ≡ 0) }
-    ensures { EachIndex scores.new (λ x. slice_index scores.new x ≡ score_of plurality_points roll.now.rows x) }
+    ensures { EachIndex scores.new (λ x. slice_index scores.new x ≡ score_of plurality_points roll.now.ballots x) }
 {
     for i in 0..roll.len() {
         give(scores, roll.first(i));
@@ -54,7 +54,7 @@ pub fn borda(alloc: Global, roll: &Roll) -> Result<ScoreList, Memory>
 fn add_places(roll: &Roll, scores: &mut [u64])
     requires size { length scores.old ≡ roll.now.c }
     requires none { EachIndex scores.old (λ x. slice_index scores.old x ≡ 0) }
-    ensures { EachIndex scores.new (λ x. slice_index scores.new x ≡ score_of (borda_points roll.now.c) roll.now.rows x) }
+    ensures { EachIndex scores.new (λ x. slice_index scores.new x ≡ score_of (borda_points roll.now.c) roll.now.ballots x) }
 {
     let c = roll.candidates();
     for i in 0..roll.len() {

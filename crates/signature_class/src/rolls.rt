@@ -11,7 +11,7 @@ use std::alloc::Global;
 /// The distinct ballots of the roll in the order in which they are first seen, each with how many there are of it.
 #[tactic(auto, using(crate::proofs::Counts::kinds_more, crate::proofs::Counts::few_of_row))]
 pub fn kinds<'a>(alloc: Global, roll: &'a Roll) -> Result<Kinds<'a>, Memory>
-    ensures { IfOk result (λ kinds. kinds ≡ classes_of bytes_eq roll.now.rows) }
+    ensures { IfOk result (λ kinds. kinds ≡ classes_of bytes_eq roll.now.ballots) }
 {
     let mut kinds = Kinds::new(alloc);
     for i in 0..roll.len() {

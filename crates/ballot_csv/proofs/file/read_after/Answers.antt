@@ -13,4 +13,4 @@ pub returns-in-Ok-read_rows : goal.returns-in-Ok-read_rows
 returns-in-Ok-read_rows c =
     let e = c.in-Ok.ensures in
     let r = c.in-Ok-read_rows.ensures in
-    all_good (fields_of c.args.head.now) c.args.records c.in-Ok.names.0 c.in-Ok.names.1 c.new-roll.result c.read_rows.new.roll c.len.result e.good e.names e.index c.len.ensures c.new-roll.ensures r.good r.rows r.names
+    all_good (fields_of c.args.head.now) c.args.records c.in-Ok.names.0 c.in-Ok.names.1 c.new-roll.result c.read_rows.new.roll c.len.result e.good e.names e.index c.len.ensures c.new-roll.ensures r.good r.ballots r.names

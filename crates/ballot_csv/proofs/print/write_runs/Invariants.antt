@@ -4,9 +4,9 @@ use Rattle.ballot_csv.proofs.print.write_runs.Given as goal
 
 abbrev pub invariant-loop-start : goal.invariant-loop-start
 invariant-loop-start l = record {
-  rest : l.text ++ text_of_rows (run_records l.contest.names (drop l.start l.contest.roll.rows)) ≡ l.fn.text ++ text_of_rows (run_records l.contest.names l.contest.roll.rows);
-  within : l.start ≤ length l.contest.roll.rows;
+  rest : l.text ++ text_of_rows (run_records l.contest.names (drop l.start l.contest.roll.ballots)) ≡ l.fn.text ++ text_of_rows (run_records l.contest.names l.contest.roll.ballots);
+  within : l.start ≤ length l.contest.roll.ballots;
 }
 
 abbrev pub decreases-loop-start : goal.decreases-loop-start
-decreases-loop-start l = length l.contest.roll.rows - l.start
+decreases-loop-start l = length l.contest.roll.ballots - l.start

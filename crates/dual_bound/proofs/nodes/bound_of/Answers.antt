@@ -11,4 +11,4 @@ returns-in-Root-clause-value c rule p reported is = root_bound rule p reported c
 pub returns-in-Pair-clause-value : goal.returns-in-Pair-clause-value
 returns-in-Pair-clause-value c rule p reported is =
     pair_bound rule p reported c.args.node.now c.args.limits.now c.args.multipliers.now _ _ c.bound_of.result is c.requires.multipliers c.in-Pair.is
-    (c.bound_of.ensures.value (keys_under rule p.c reported c.args.node.now.goal p.rows) (grouped_keys rule p reported c.args.node.now is))
+    (c.bound_of.ensures.value (keys_under rule p.c reported c.args.node.now.goal p.ballots) (grouped_keys rule p reported c.args.node.now is))

@@ -11,6 +11,6 @@ pub returns-clause-turning : goal.returns-clause-turning
 returns-clause-turning c =
     let roots = c.in_ok-roots.ensures ∙ ap (λ n. root_goals c.args.rule n c.in_ok-reported.reported) c.candidates.ensures.value in
     λ changes. subst (λ gs. Turns c.args.rule c.args.roll.now changes
-    ↔ ((goal : Goal) × IsComplete gs goal × Holds (rows_of c.args.rule c.args.roll.now.c c.in_ok-reported.reported goal) (after c.args.roll.now changes).rows)) (sym roots)
+    ↔ ((goal : Goal) × IsComplete gs goal × Holds (rows_of c.args.rule c.args.roll.now.c c.in_ok-reported.reported goal) (after c.args.roll.now changes).ballots)) (sym roots)
     (pair_turning c.args.rule c.args.roll.now c.in_ok-reported.reported changes (c.requires.pairs c.in_ok-reported.reported c.in_ok-reported.ensures.reported) c.candidates.ensures.poll
     c.in_ok-reported.ensures.reported)

@@ -5,8 +5,8 @@ use Rattle.goal_rows.proofs.rows.ballot_counts.Goals as goal
 
 pub loop-i-preserved : goal.loop-i-preserved
 loop-i-preserved c =
-    let gain = add_up_more (gainer_points c.args.race.now.rule c.args.race.now.roll.now.c c.args.race.now.reported c.args.gainer c.args.loser) c.args.roll.now.rows c.loop-i.i c.row-row.result.now c.row-row.ensures.value in
-    let loss = add_up_more (loser_points c.args.race.now.rule c.args.race.now.roll.now.c c.args.race.now.reported c.args.gainer c.args.loser) c.args.roll.now.rows c.loop-i.i c.row-row.result.now c.row-row.ensures.value in
+    let gain = add_up_more (gainer_points c.args.race.now.rule c.args.race.now.roll.now.c c.args.race.now.reported c.args.gainer c.args.loser) c.args.roll.now.ballots c.loop-i.i c.row-row.result.now c.row-row.ensures.value in
+    let loss = add_up_more (loser_points c.args.race.now.rule c.args.race.now.roll.now.c c.args.race.now.reported c.args.gainer c.args.loser) c.args.roll.now.ballots c.loop-i.i c.row-row.result.now c.row-row.ensures.value in
     let is = c.loop-i.invariant in (
       omega (arith, gain, is.0, c.for_gainer-gained.ensures.value),
       omega (arith, loss, is.1, c.for_loser-lost.ensures.value),

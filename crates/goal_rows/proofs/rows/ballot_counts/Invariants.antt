@@ -5,7 +5,7 @@ use Rattle.goal_rows.proofs.rows.ballot_counts.Given as goal
 
 abbrev pub invariant-loop-i : goal.invariant-loop-i
 invariant-loop-i l =
-    (l.gained ≡ add_up (gainer_points l.race.rule l.race.roll.now.c l.race.reported l.gainer l.loser) (take l.i l.roll.rows))
-    × (l.lost ≡ add_up (loser_points l.race.rule l.race.roll.now.c l.race.reported l.gainer l.loser) (take l.i l.roll.rows))
+    (l.gained ≡ add_up (gainer_points l.race.rule l.race.roll.now.c l.race.reported l.gainer l.loser) (take l.i l.roll.ballots))
+    × (l.lost ≡ add_up (loser_points l.race.rule l.race.roll.now.c l.race.reported l.gainer l.loser) (take l.i l.roll.ballots))
     × (l.gained ≤ 65536 * l.i)
     × (l.lost ≤ 65536 * l.i)
