@@ -3,7 +3,7 @@ use Rattle.std.proofs.Common.{ℕ, suc, true, false, cond, List, [], ◌∷◌, 
 use Rattle.mov_base.specs.Sums.{add_up, most}
 use Rattle.ballot_form.specs.Alterations.{IsAlteration, IsAlterationFrom, after_from}
 use Rattle.ballot_form.specs.Ballots.{IsValidBallot, Poll}
-use Rattle.goal_rows.specs.Pairs.{Reaches, gain_of}
+use Rattle.goal_rows.specs.Pairs.{Reaches, deficit_of, gain_of}
 
 -- one ballot more, replaced or kept
 replaced : (top new_plus new_minus old_plus old_minus plus minus plus' minus' best whole : ℕ) → new_plus ≤ top + new_minus
@@ -38,5 +38,5 @@ brought c top plus minus valid i j n (row ∷ rows) (change ∷ changes) ok =
 pub length_reaches : (top : ℕ) (plus minus : List ℕ → ℕ) (p : Poll) (changes : List (ℕ × List ℕ))
     → ((row : List ℕ) → IsValidBallot p.c row → plus row ≤ top + minus row) → IsAlteration p changes
     → add_up minus (after_from 1 p.ballots changes) ≤ add_up plus (after_from 1 p.ballots changes)
-    → Reaches top plus minus p.ballots (length changes)
+    → Reaches (deficit_of plus minus p.ballots) (map (gain_of top plus minus) p.ballots) (length changes)
 length_reaches top plus minus p changes valid ok level = omega (arith, level, brought p.c top plus minus valid 1 1 (length p.ballots) p.ballots changes ok)

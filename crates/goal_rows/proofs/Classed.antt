@@ -6,17 +6,17 @@ use Rattle.std.proofs.lemmas.List.{take_all, take_more, map-append}
 use Rattle.mov_base.specs.Sums.{add_up, sum_z}
 use Rattle.mov_base.proofs.Sums.{add_up-append, add_up-le}
 use Rattle.ballot_form.specs.Ballots.{Poll}
-use Rattle.ballot_form.specs.declared.outcome.Outcome.{Outcome}
-use Rattle.ballot_form.specs.declared.rule.Rule.{Rule}
+use Rattle.ballot_form.specs.declared.limits.TheConstants.{MOST_BALLOTS}
 use Rattle.signature_class.specs.Classes.{add_all, add_class, classes_of, count_of}
 use Rattle.signature_class.proofs.Counts.{add_all-append, classes_by_kinds, count_le, kinds_are_classes, sum-add_all, sum-times_one}
 use Rattle.goal_rows.specs.declared.goals.Goal.TheVariants.{Pair}
 use Rattle.goal_rows.specs.Goals.{gainer_points, loser_points, pair_weight}
-use Rattle.goal_rows.specs.Races.{IsGroundOf, keyed, pair_key}
+use Rattle.goal_rows.specs.Races.{IsGroundOf, IsRace, election_of, key_of, keyed}
+use Rattle.goal_rows.specs.declared.parts.Race.{Race}
 use Rattle.mov_base.proofs.Signed.{sum_z-difference}
 
 -- the kinds have as many ballots as there are
-pub few_kinds : (p : Poll) (kinds : List (List ℕ × ℕ)) → kinds ≡ classes_of bytes_eq p.ballots → length p.ballots ≤ 1000000 → add_up (λ k. k.1) kinds ≤ 1000000
+pub few_kinds : (p : Poll) (kinds : List (List ℕ × ℕ)) → kinds ≡ classes_of bytes_eq p.ballots → length p.ballots ≤ MOST_BALLOTS → add_up (λ k. k.1) kinds ≤ MOST_BALLOTS
 few_kinds p kinds is few =
     let a = (kinds_are_classes p.ballots).counted (λ _. 1) in
     let b = add_up-le (λ (_ : List ℕ). 1) 1 p.ballots (λ x. omega arith) in
@@ -56,11 +56,11 @@ kinds_more i kinds n lt n_is =
     let j = add_up-append (λ (k : List ℕ × ℕ). k.1) (take i kinds) (get_or kinds i ([], 0) ∷ []) in
     rw (first_kinds kinds i lt) (omega (arith, j, n_is))
 
-pub kinds_few : (i : ℕ) (kinds : List (List ℕ × ℕ)) → add_up (λ (k : List ℕ × ℕ). k.1) kinds ≤ 1000000 → add_up (λ (k : List ℕ × ℕ). k.1) (take i kinds) ≤ 1000000
+pub kinds_few : (i : ℕ) (kinds : List (List ℕ × ℕ)) → add_up (λ (k : List ℕ × ℕ). k.1) kinds ≤ MOST_BALLOTS → add_up (λ (k : List ℕ × ℕ). k.1) (take i kinds) ≤ MOST_BALLOTS
 kinds_few i kinds few = omega (arith, whole_sum (λ k. k.1) kinds i)
 
 pub class_room : (key : List ℕ → ℕ) (i : ℕ) (kinds : List (List ℕ × ℕ)) (n k : ℕ) (classes : List (ℕ × ℕ)) → i < length kinds → n ≡ (get_or kinds i ([], 0)).1
-    → classes ≡ add_all nat_eq [] (keyed key (take i kinds)) → add_up (λ z. z.1) kinds ≤ 1000000 → count_of nat_eq k classes + n ≤ 1000000
+    → classes ≡ add_all nat_eq [] (keyed key (take i kinds)) → add_up (λ z. z.1) kinds ≤ MOST_BALLOTS → count_of nat_eq k classes + n ≤ MOST_BALLOTS
 class_room key i kinds n k classes lt n_is is few =
     let a = count_le nat_eq k classes in
     let b = sum-times_one classes in
@@ -90,19 +90,23 @@ counted_all f i kinds sum all is = is ∙ ap (add_up (λ k. k.1 * f k.0)) (take_
 by_kinds : (f : List ℕ → ℕ) (p : Poll) (kinds : List (List ℕ × ℕ)) → kinds ≡ classes_of bytes_eq p.ballots → add_up (λ k. k.1 * f k.0) kinds ≡ add_up f p.ballots
 by_kinds f p kinds is = ap (add_up (λ k. k.1 * f k.0)) is ∙ sym ((kinds_are_classes p.ballots).counted f)
 
-pub pair_values : (rule : Rule) (p : Poll) (kinds : List (List ℕ × ℕ)) (reported : Outcome) (g l : ℕ) (classes : List (ℕ × ℕ)) (sum : ℤ) (lone : ℤ) (ballots : ℕ)
-    → kinds ≡ classes_of bytes_eq p.ballots → classes ≡ add_all nat_eq [] (keyed (pair_key rule p.c reported g l) kinds)
-    → sum ≡ pos (add_up (λ k. k.1 * gainer_points rule p.c reported g l k.0) kinds) -ℤ pos (add_up (λ k. k.1 * loser_points rule p.c reported g l k.0) kinds)
-    → lone ≡ pair_weight rule p.c reported g l (g ∷ []) → ballots ≡ length p.ballots → IsGroundOf rule p reported (Pair g l) classes (sum ∷ []) ballots lone
-pair_values rule p kinds reported g l classes sum lone ballots kinds_are classes_are sum_is alone count = record {
-  classes_are = classes_are ∙ ap (λ ks. add_all nat_eq [] (keyed (pair_key rule p.c reported g l) ks)) kinds_are ∙ classes_by_kinds (pair_key rule p.c reported g l) p.ballots;
-  sums_are =
-      let e = by_kinds (gainer_points rule p.c reported g l) p kinds kinds_are in
-      let f = by_kinds (loser_points rule p.c reported g l) p kinds kinds_are in
-      let w = sum_z-difference (gainer_points rule p.c reported g l) (loser_points rule p.c reported g l) p.ballots in
-      let s : sum ≡ sum_z (pair_weight rule p.c reported g l) p.ballots = sum_is ∙ ap (λ n. pos n -ℤ pos (add_up (λ k. k.1 * loser_points rule p.c reported g l k.0) kinds)) e
-      ∙ ap (λ n. pos (add_up (gainer_points rule p.c reported g l) p.ballots) -ℤ pos n) f ∙ sym w in
-      ap (λ z. z ∷ []) s;
-  ballots_are = count;
-  lone_is = alone;
-}
+pub pair_values : (race : Race) (g l : ℕ) (classes : List (ℕ × ℕ)) (sum lone : ℤ) (ballots : ℕ) → IsRace race
+    → classes ≡ add_all nat_eq [] (keyed (key_of (election_of race) (Pair g l)) race.kinds)
+    → sum ≡ pos (add_up (λ k. k.1 * gainer_points (election_of race) g l k.0) race.kinds) -ℤ pos (add_up (λ k. k.1 * loser_points (election_of race) g l k.0) race.kinds)
+    → lone ≡ pair_weight (election_of race) g l (g ∷ []) → ballots ≡ length race.roll.now.ballots
+    → IsGroundOf (election_of race) (record { goal = Pair g l; classes = classes; sums = sum ∷ []; ballots = ballots; lone = lone })
+pair_values race g l classes sum lone ballots is classes_are sum_is alone count =
+    let e = election_of race in
+    let p = race.roll.now in
+    record {
+      classes = classes_are ∙ ap (λ ks. add_all nat_eq [] (keyed (key_of e (Pair g l)) ks)) is.kinds ∙ classes_by_kinds (key_of e (Pair g l)) p.ballots;
+      sums =
+          let gained = by_kinds (gainer_points e g l) p race.kinds is.kinds in
+          let lost = by_kinds (loser_points e g l) p race.kinds is.kinds in
+          let w = sum_z-difference (gainer_points e g l) (loser_points e g l) p.ballots in
+          let s : sum ≡ sum_z (pair_weight e g l) p.ballots = sum_is ∙ ap (λ n. pos n -ℤ pos (add_up (λ k. k.1 * loser_points e g l k.0) race.kinds)) gained
+          ∙ ap (λ n. pos (add_up (gainer_points e g l) p.ballots) -ℤ pos n) lost ∙ sym w in
+          ap (λ z. z ∷ []) s;
+      ballots = count;
+      lone = alone;
+    }

@@ -3,10 +3,10 @@ pub mod Turning
 pub mod Chosen
 pub mod Bounds
 pub mod Nearest
+pub mod Lists
 pub mod Roots
 pub mod Ways
 pub mod SeatMoves
-pub mod SeatRoots
 pub mod Settled
 pub mod PairTurning
 pub mod Levels

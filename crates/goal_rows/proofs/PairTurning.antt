@@ -1,6 +1,6 @@
 -- Under the rules that are decided by pairs the outcome turns exactly where the row of some root goal holds.
-use Rattle.std.proofs.Common.{ℕ, List, [], ◌∷◌, Bool, true, false, Option, Some, None, ◌≡◌, ◌≢◌, ◌<◌, ◌≤◌, ◌+◌, ◌*◌, ◌∙◌, ◌↔◌, cond, get_or, length, sym, ap, subst, arith}
-use Rattle.std.specs.Prelude.{pos, ◌≤ℤ◌}
+use Rattle.std.proofs.Common.{ℕ, zero, suc, All, refl, List, [], ◌∷◌, Bool, true, false, Option, Some, None, ◌≡◌, ◌≢◌, ◌<◌, ◌≤◌, ◌+◌, ◌*◌, ◌∙◌, ◌↔◌, cond, get_or, length, sym, ap, subst, arith}
+use Rattle.std.specs.Prelude.{Contains, ℤ, pos, ◌≤ℤ◌}
 use Rattle.std.proofs.lemmas.Int.{ints}
 use Rattle.std.proofs.lemmas.List.{length-map}
 use Rattle.std.proofs.lemmas.List.FromFn.{get_or-map-range_with_len, length-range_with_len}
@@ -14,7 +14,7 @@ use Rattle.mov_base.proofs.Signed.{sum_z-difference}
 use Rattle.mov_base.proofs.Sums.{add_up-sum_by}
 use Rattle.ballot_form.specs.Alterations.{after}
 use Rattle.ballot_form.specs.Ballots.{IsPoll, Poll}
-use Rattle.ballot_form.specs.Scores.{borda_points, first_count, is_first, score_of}
+use Rattle.ballot_form.specs.Scores.{borda_points, first_count, is_first, plurality_points, score_of}
 use Rattle.ballot_form.specs.declared.outcome.Outcome.{Outcome}
 use Rattle.ballot_form.specs.declared.outcome.Outcome.TheVariants.{Winner, NoWinner, Seats}
 use Rattle.ballot_form.specs.declared.rule.Rule.{Rule}
@@ -23,45 +23,70 @@ use Rattle.condorcet_count.specs.Preferences.{pref_of, prefers}
 use Rattle.condorcet_count.specs.Settlings.{IsAdmittedOutcome}
 use Rattle.goal_rows.specs.declared.goals.Goal.{Goal}
 use Rattle.goal_rows.specs.declared.goals.Goal.TheVariants.{Root, Pair}
-use Rattle.goal_rows.specs.Goals.{Holds, IsComplete, IsDecidedByPairs, IsOnlyWay, gainer_points, loser_points, pair_weight, root_goals, rows_of}
+use Rattle.goal_rows.specs.Elections.{Election}
+use Rattle.goal_rows.specs.Goals.{Holds, IsComplete, IsDecidedByPairs, IsElection, gainer_points, loser_points, pair_weight, root_goals}
 use Rattle.goal_rows.specs.Margins.{Turns}
 use Rattle.goal_rows.specs.Outcomes.{Admits, IsReported}
 use Rattle.goal_rows.proofs.Reporting.{one_reported}
-use Rattle.goal_rows.proofs.Roots.{one_row, pair_among, pairs_are, turning}
+use Rattle.goal_rows.proofs.Roots.{pair_among, pairs_are, seat_pair_among, seat_pairs_are, with_winner}
 use Rattle.goal_rows.proofs.SeatMoves.{another_where_gained, reported_allocation}
-use Rattle.goal_rows.proofs.SeatRoots.{seat_pair_among, seat_pairs_are, seat_pairs_once}
-use Rattle.goal_rows.proofs.Ways.{ArePairs, no_pairs, only_way, pairs_once}
-use Rattle.goal_rows.proofs.Turning.{borda_turns_exactly}
+use Rattle.goal_rows.proofs.Turning.{borda_turns_exactly, turns_exactly}
 use Rattle.goal_rows.proofs.Settled.{IsRival, other_of_rival, rival_of_other}
 
+-- the one row of a pair
+one_row : (weight : List ℕ → ℤ) (ballots : List (List ℕ)) → pos 0 ≤ℤ sum_z weight ballots → All (λ weight. pos 0 ≤ℤ sum_z weight ballots) (weight ∷ [])
+one_row weight ballots h zero d lt = h
+one_row weight ballots h (suc k) d lt = absurd (omega arith)
+
 -- a pair's row holds where the gainer's count reaches the loser's
-pub pair_row : (rule : Rule) (c : ℕ) (reported : Outcome) (g l : ℕ) (rows : List (List ℕ)) → Holds (rows_of rule c reported (Pair g l)) rows
-    ↔ (add_up (loser_points rule c reported g l) rows ≤ add_up (gainer_points rule c reported g l) rows)
-pair_row rule c reported g l rows =
-    let v = sum_z-difference (gainer_points rule c reported g l) (loser_points rule c reported g l) rows in (
-      λ holds. let h : pos 0 ≤ℤ sum_z (pair_weight rule c reported g l) rows = holds 0 (pair_weight rule c reported g l) (omega arith) in omega (arith, ints, h, v),
-      λ level. one_row (pair_weight rule c reported g l) rows (omega (arith, ints, level, v)),
+pub pair_row : (e : Election) (g l : ℕ) (ballots : List (List ℕ)) → Holds e (Pair g l) ballots
+    ↔ (add_up (loser_points e g l) ballots ≤ add_up (gainer_points e g l) ballots)
+pair_row e g l ballots =
+    let v = sum_z-difference (gainer_points e g l) (loser_points e g l) ballots in (
+      λ holds. let h : pos 0 ≤ℤ sum_z (pair_weight e g l) ballots = holds 0 (pair_weight e g l) (omega arith) in omega (arith, ints, h, v),
+      λ level. one_row (pair_weight e g l) ballots (omega (arith, ints, level, v)),
     )
 
-abbrev Met : Rule → Poll → Outcome → List (ℕ × List ℕ) → Type 0
-Met rule p reported changes = (goal : Goal) × IsComplete (root_goals rule p.c reported) goal × Holds (rows_of rule p.c reported goal) (after p changes).ballots
+-- the election of this contest, with its own root goals
+abbrev of_contest : Rule → Poll → Outcome → Election
+of_contest rule p reported = record { rule = rule; poll = p; reported = reported; roots = root_goals rule p.c reported }
 
--- ---- Borda: somebody's score reaches the winner's
+-- some complete goal holds after the changes
+abbrev Met : Election → List (ℕ × List ℕ) → Type 0
+Met e changes = (goal : Goal) × IsComplete e goal × Holds e goal (after e.poll changes).ballots
 
-borda_met : (p : Poll) (x : ℕ) (changes : List (ℕ × List ℕ)) → ((j : ℕ) × IsLevel (borda_points p.c) (after p changes) x j) → Met Borda p (Winner x) changes
-borda_met p x changes (j, is) = (Pair j x, pair_among p.c x j is.stands is.other, (pair_row Borda p.c (Winner x) j x (after p changes).ballots).1 is.level)
+-- ---- plurality and Borda: somebody's score reaches the winner's
 
-borda_level : (p : Poll) (x : ℕ) (changes : List (ℕ × List ℕ)) → Met Borda p (Winner x) changes → (j : ℕ) × IsLevel (borda_points p.c) (after p changes) x j
-borda_level p x changes (Root, complete, holds) = absurd complete
-borda_level p x changes (Pair g l, complete, holds) =
-    let is = pairs_are p.c x g l complete in
-    let level = (pair_row Borda p.c (Winner x) g l (after p changes).ballots).0 holds in
-    (g, record { stands = is.0; other = is.1; level = subst (λ y. score_of (borda_points p.c) (after p changes).ballots y ≤ score_of (borda_points p.c) (after p changes).ballots g) is.2 level })
+score_met : (e : Election) (points : List ℕ → ℕ → ℕ) (x : ℕ) (changes : List (ℕ × List ℕ)) → e.roots ≡ with_winner e.poll.c x
+    → ((g l : ℕ) (ballots : List (List ℕ)) → Holds e (Pair g l) ballots ↔ (score_of points ballots l ≤ score_of points ballots g))
+    → ((j : ℕ) × IsLevel points (after e.poll changes) x j) → Met e changes
+score_met e points x changes roots row (j, is) =
+    (Pair j x, subst (λ goals. Contains goals (Pair j x)) (sym roots) (pair_among e.poll.c x j is.stands is.other), (row j x (after e.poll changes).ballots).1 is.level)
 
-borda_turning : (p : Poll) (x : ℕ) (changes : List (ℕ × List ℕ)) → IsReported Borda p (Winner x) → Turns Borda p changes ↔ Met Borda p (Winner x) changes
+met_score : (e : Election) (points : List ℕ → ℕ → ℕ) (x : ℕ) (changes : List (ℕ × List ℕ)) → e.roots ≡ with_winner e.poll.c x
+    → ((g l : ℕ) (ballots : List (List ℕ)) → Holds e (Pair g l) ballots ↔ (score_of points ballots l ≤ score_of points ballots g))
+    → Met e changes → (j : ℕ) × IsLevel points (after e.poll changes) x j
+met_score e points x changes roots row (Root, complete, holds) = absurd complete
+met_score e points x changes roots row (Pair g l, complete, holds) =
+    let is = pairs_are e.poll.c x g l (subst (λ goals. Contains goals (Pair g l)) roots complete) in
+    let level = (row g l (after e.poll changes).ballots).0 holds in
+    (g, record { stands = is.0; other = is.1; level = subst (λ y. score_of points (after e.poll changes).ballots y ≤ score_of points (after e.poll changes).ballots g) is.2 level })
+
+plurality_turning : (p : Poll) (x : ℕ) (changes : List (ℕ × List ℕ)) → IsReported Plurality p (Winner x) → Turns Plurality p changes ↔ Met (of_contest Plurality p (Winner x)) changes
+plurality_turning p x changes is =
+    let e = of_contest Plurality p (Winner x) in
+    let exactly = turns_exactly p x changes is in (
+      λ turns. score_met e plurality_points x changes refl (pair_row e) (exactly.0 turns),
+      λ met. exactly.1 (met_score e plurality_points x changes refl (pair_row e) met),
+    )
+
+borda_turning : (p : Poll) (x : ℕ) (changes : List (ℕ × List ℕ)) → IsReported Borda p (Winner x) → Turns Borda p changes ↔ Met (of_contest Borda p (Winner x)) changes
 borda_turning p x changes is =
-    let exactly = borda_turns_exactly p x changes is in
-    (λ turns. borda_met p x changes (exactly.0 turns), λ met. exactly.1 (borda_level p x changes met))
+    let e = of_contest Borda p (Winner x) in
+    let exactly = borda_turns_exactly p x changes is in (
+      λ turns. score_met e (borda_points p.c) x changes refl (pair_row e) (exactly.0 turns),
+      λ met. exactly.1 (met_score e (borda_points p.c) x changes refl (pair_row e) met),
+    )
 
 -- ---- Condorcet: somebody is preferred to the winner no less than the winner to them
 
@@ -89,24 +114,24 @@ turn_by : (p : Poll) (x : ℕ) (changes : List (ℕ × List ℕ)) (o : Option �
 turn_by p x changes (Some y) is differ admitted = (Winner y, λ r. differ (ap Some (winner_is y x (one_reported Condorcet p (Winner y) (Winner x) r is))), admitted)
 turn_by p x changes None is differ admitted = (NoWinner, λ r. r x is, admitted)
 
-rival_met : (p : Poll) (x : ℕ) (changes : List (ℕ × List ℕ)) → ((j : ℕ) × IsRival p.c (pref_of (after p changes).ballots) x j) → Met Condorcet p (Winner x) changes
+rival_met : (p : Poll) (x : ℕ) (changes : List (ℕ × List ℕ)) → ((j : ℕ) × IsRival p.c (pref_of (after p changes).ballots) x j) → Met (of_contest Condorcet p (Winner x)) changes
 rival_met p x changes (j, is) =
     let level = is.level in
     let a = pref_sum (after p changes).ballots x j in
     let b = pref_sum (after p changes).ballots j x in
-    (Pair j x, pair_among p.c x j is.stands is.other, (pair_row Condorcet p.c (Winner x) j x (after p changes).ballots).1 (omega (arith, level, a, b)))
+    (Pair j x, pair_among p.c x j is.stands is.other, (pair_row (of_contest Condorcet p (Winner x)) j x (after p changes).ballots).1 (omega (arith, level, a, b)))
 
-met_rival : (p : Poll) (x : ℕ) (changes : List (ℕ × List ℕ)) → Met Condorcet p (Winner x) changes → (j : ℕ) × IsRival p.c (pref_of (after p changes).ballots) x j
+met_rival : (p : Poll) (x : ℕ) (changes : List (ℕ × List ℕ)) → Met (of_contest Condorcet p (Winner x)) changes → (j : ℕ) × IsRival p.c (pref_of (after p changes).ballots) x j
 met_rival p x changes (Root, complete, holds) = absurd complete
 met_rival p x changes (Pair g l, complete, holds) =
     let is = pairs_are p.c x g l complete in
-    let level = (pair_row Condorcet p.c (Winner x) g l (after p changes).ballots).0 holds in
+    let level = (pair_row (of_contest Condorcet p (Winner x)) g l (after p changes).ballots).0 holds in
     let a = pref_sum (after p changes).ballots l g in
     let b = pref_sum (after p changes).ballots g l in
     let here : pref_of (after p changes).ballots l g ≤ pref_of (after p changes).ballots g l = omega (arith, level, a, b) in
     (g, record { stands = is.0; other = is.1; level = subst (λ y. pref_of (after p changes).ballots y g ≤ pref_of (after p changes).ballots g y) is.2 here })
 
-condorcet_turning : (p : Poll) (x : ℕ) (changes : List (ℕ × List ℕ)) → IsReported Condorcet p (Winner x) → Turns Condorcet p changes ↔ Met Condorcet p (Winner x) changes
+condorcet_turning : (p : Poll) (x : ℕ) (changes : List (ℕ × List ℕ)) → IsReported Condorcet p (Winner x) → Turns Condorcet p changes ↔ Met (of_contest Condorcet p (Winner x)) changes
 condorcet_turning p x changes is = (
   λ turns. rival_met p x changes (rival_of_turn p x changes turns.0 is turns.1 turns.2),
   λ met. let rival = met_rival p x changes met in
@@ -138,26 +163,26 @@ length_votes p is = let long = votes_long p in let some = is.some in omega arith
 
 -- a party gains after the changes exactly where the row of its pair holds then
 seat_row : (p q : Poll) (s : ℕ) (shares : List ℕ) (g l : ℕ) → g < q.c → l < q.c
-    → Holds (rows_of (Dhondt s) p.c (Seats shares) (Pair g l)) q.ballots ↔ (get_or (votes_of q) l 0 * (get_or shares g 0 + 1) ≤ get_or (votes_of q) g 0 * get_or shares l 0)
+    → Holds (of_contest (Dhondt s) p (Seats shares)) (Pair g l) q.ballots ↔ (get_or (votes_of q) l 0 * (get_or shares g 0 + 1) ≤ get_or (votes_of q) g 0 * get_or shares l 0)
 seat_row p q s shares g l gc lc =
-    let row = pair_row (Dhondt s) p.c (Seats shares) g l q.ballots in
+    let row = pair_row (of_contest (Dhondt s) p (Seats shares)) g l q.ballots in
     let a = first_sum q.ballots l (get_or shares g 0 + 1) in
     let b = first_sum q.ballots g (get_or shares l 0) in
     let vl = vote_at q l lc in
     let vg = vote_at q g gc in
     rw (vl, vg, ← a, ← b) row
 
-gain_met : (p : Poll) (s : ℕ) (shares : List ℕ) (changes : List (ℕ × List ℕ)) → ((g l : ℕ) × IsSeatGain (votes_of (after p changes)) shares g l) → Met (Dhondt s) p (Seats shares) changes
+gain_met : (p : Poll) (s : ℕ) (shares : List ℕ) (changes : List (ℕ × List ℕ)) → ((g l : ℕ) × IsSeatGain (votes_of (after p changes)) shares g l) → Met (of_contest (Dhondt s) p (Seats shares)) changes
 gain_met p s shares changes (g, l, is) =
     let long = votes_long (after p changes) in
     let gc : g < p.c = (let h = is.gainer in omega arith) in
     let lc : l < p.c = (let h = is.loser in omega arith) in
-    (Pair g l, seat_pair_among p.c p.c g l shares gc lc (λ e. is.differ (sym e)) is.seated, (seat_row p (after p changes) s shares g l gc lc).1 is.reaches)
+    (Pair g l, seat_pair_among p.c g l shares gc lc (λ e. is.differ (sym e)) is.seated, (seat_row p (after p changes) s shares g l gc lc).1 is.reaches)
 
-met_gain : (p : Poll) (s : ℕ) (shares : List ℕ) (changes : List (ℕ × List ℕ)) → Met (Dhondt s) p (Seats shares) changes → (g l : ℕ) × IsSeatGain (votes_of (after p changes)) shares g l
+met_gain : (p : Poll) (s : ℕ) (shares : List ℕ) (changes : List (ℕ × List ℕ)) → Met (of_contest (Dhondt s) p (Seats shares)) changes → (g l : ℕ) × IsSeatGain (votes_of (after p changes)) shares g l
 met_gain p s shares changes (Root, complete, holds) = absurd complete
 met_gain p s shares changes (Pair g l, complete, holds) =
-    let is = seat_pairs_are p.c p.c g l shares complete in
+    let is = seat_pairs_are p.c g l shares complete in
     let long = votes_long (after p changes) in (
       g,
       l,
@@ -181,7 +206,7 @@ another_of_turn p s shares changes (Winner x) is unlike admitted = absurd admitt
 another_of_turn p s shares changes NoWinner is unlike admitted = absurd admitted
 
 seat_turning : (p : Poll) (s : ℕ) (shares : List ℕ) (changes : List (ℕ × List ℕ)) → IsPoll p → IsReported (Dhondt s) p (Seats shares)
-    → Turns (Dhondt s) p changes ↔ Met (Dhondt s) p (Seats shares) changes
+    → Turns (Dhondt s) p changes ↔ Met (of_contest (Dhondt s) p (Seats shares)) changes
 seat_turning p s shares changes poll is =
     let some : 1 ≤ length (votes_of (after p changes)) = (let a = votes_long (after p changes) in let b = poll.some in omega arith) in
     let here = reported_allocation (votes_of p) s (length_votes p poll) in
@@ -194,34 +219,28 @@ seat_turning p s shares changes poll is =
 
 -- ---- all of them
 
-pub pair_turning : (rule : Rule) (p : Poll) (reported : Outcome) (changes : List (ℕ × List ℕ)) → IsDecidedByPairs rule reported → IsPoll p → IsReported rule p reported
-    → Turns rule p changes ↔ Met rule p reported changes
-pair_turning Plurality p reported changes paired poll is = turning p reported changes is
-pair_turning Borda p (Winner x) changes paired poll is = borda_turning p x changes is
-pair_turning Borda p NoWinner changes paired poll is = absurd is
-pair_turning Borda p (Seats shares) changes paired poll is = absurd is
-pair_turning Condorcet p (Winner x) changes paired poll is = condorcet_turning p x changes is
-pair_turning Condorcet p NoWinner changes paired poll is = absurd paired
-pair_turning Condorcet p (Seats shares) changes paired poll is = absurd is
-pair_turning (Dhondt s) p (Seats shares) changes paired poll is = seat_turning p s shares changes poll is
-pair_turning (Dhondt s) p (Winner x) changes paired poll is = absurd is
-pair_turning (Dhondt s) p NoWinner changes paired poll is = absurd is
-pair_turning Irv p reported changes paired poll is = absurd paired
+turning_by : (rule : Rule) (p : Poll) (reported : Outcome) (changes : List (ℕ × List ℕ)) → IsDecidedByPairs rule reported → IsPoll p → IsReported rule p reported
+    → Turns rule p changes ↔ Met (of_contest rule p reported) changes
+turning_by Plurality p (Winner x) changes paired poll is = plurality_turning p x changes is
+turning_by Plurality p NoWinner changes paired poll is = absurd is
+turning_by Plurality p (Seats shares) changes paired poll is = absurd is
+turning_by Borda p (Winner x) changes paired poll is = borda_turning p x changes is
+turning_by Borda p NoWinner changes paired poll is = absurd is
+turning_by Borda p (Seats shares) changes paired poll is = absurd is
+turning_by Condorcet p (Winner x) changes paired poll is = condorcet_turning p x changes is
+turning_by Condorcet p NoWinner changes paired poll is = absurd paired
+turning_by Condorcet p (Seats shares) changes paired poll is = absurd is
+turning_by (Dhondt s) p (Seats shares) changes paired poll is = seat_turning p s shares changes poll is
+turning_by (Dhondt s) p (Winner x) changes paired poll is = absurd is
+turning_by (Dhondt s) p NoWinner changes paired poll is = absurd is
+turning_by Irv p reported changes paired poll is = absurd paired
 
-pub each_once : (rule : Rule) (c : ℕ) (reported : Outcome) → ArePairs (root_goals rule c reported)
-each_once Plurality c (Winner x) = pairs_once c x
-each_once Plurality c NoWinner = no_pairs
-each_once Plurality c (Seats shares) = no_pairs
-each_once Borda c (Winner x) = pairs_once c x
-each_once Borda c NoWinner = no_pairs
-each_once Borda c (Seats shares) = no_pairs
-each_once Condorcet c (Winner x) = pairs_once c x
-each_once Condorcet c NoWinner = no_pairs
-each_once Condorcet c (Seats shares) = no_pairs
-each_once (Dhondt s) c (Seats shares) = seat_pairs_once c c shares
-each_once (Dhondt s) c (Winner x) = no_pairs
-each_once (Dhondt s) c NoWinner = no_pairs
-each_once Irv c reported = no_pairs
+pub pair_turning : (e : Election) (changes : List (ℕ × List ℕ)) → IsPoll e.poll → IsReported e.rule e.poll e.reported → IsDecidedByPairs e.rule e.reported
+    → e.roots ≡ root_goals e.rule e.poll.c e.reported → Turns e.rule e.poll changes ↔ Met e changes
+pair_turning e changes poll is paired roots =
+    let with : List Goal → Election = λ goals. record { rule = e.rule; poll = e.poll; reported = e.reported; roots = goals } in
+    subst (λ goals. Turns e.rule e.poll changes ↔ Met (with goals) changes) (sym roots) (turning_by e.rule e.poll e.reported changes paired poll is)
 
-pub one_way : (rule : Rule) (c : ℕ) (reported : Outcome) (goal : Goal) → IsComplete (root_goals rule c reported) goal → (way : List ℕ) × IsOnlyWay (root_goals rule c reported) Root way goal
-one_way rule c reported goal complete = only_way (root_goals rule c reported) goal (each_once rule c reported) complete
+pub election_turning : (e : Election) (changes : List (ℕ × List ℕ)) → IsElection e → IsDecidedByPairs e.rule e.reported
+    → e.roots ≡ root_goals e.rule e.poll.c e.reported → Turns e.rule e.poll changes ↔ Met e changes
+election_turning e changes is paired roots = pair_turning e changes is.poll is.reported paired roots

@@ -1,115 +1,148 @@
--- The root goals: built one by one, and what it takes to be among them.
-use Rattle.std.proofs.Common.{ℕ, zero, suc, List, [], ◌∷◌, ◌++◌, true, false, ◌≡◌, ◌≢◌, ◌<◌, ◌≤◌, ◌+◌, ◌∙◌, cond, ap, sym, refl, subst, inl, inr, arith, ◌↔◌}
-use Rattle.std.specs.Prelude.{◌==◌, Contains, ℤ, pos, ◌-ℤ◌, ◌≤ℤ◌}
-use Rattle.std.proofs.lemmas.Bool.{cases_eq}
+-- The root goals: what it takes to be among them, and that they are goals that an election may have below the root.
+use Rattle.std.proofs.Common.{ℕ, List, [], ◌∷◌, Bool, true, ◌≡◌, ◌≢◌, ◌<◌, ◌≤◌, ◌+◌, ◌∙◌, length, get_or, map, ap, sym, refl, subst, arith, All}
+use Rattle.std.specs.Prelude.{◌==◌, not, Contains, AllPairs, slice_index}
+use Rattle.std.specs.List.{flat_map, range_with_len}
 use Rattle.std.proofs.lemmas.Bool.Decides.{nat_tests}
-use Rattle.std.proofs.lemmas.Int.{ints}
-use Rattle.std.proofs.lemmas.List.{append-nil}
-use Rattle.std.proofs.lemmas.List.Elements.{Contains-append_cases, Contains-append_left, Contains-append_right}
-use Rattle.mov_base.specs.Sums.{sum_z}
-use Rattle.mov_base.proofs.Signed.{sum_z-difference}
-use Rattle.ballot_form.specs.Alterations.{after}
-use Rattle.ballot_form.specs.Ballots.{Poll}
-use Rattle.ballot_form.specs.Scores.{plurality_points, score_of}
+use Rattle.std.proofs.lemmas.List.Elements.{Contains-get_or}
+use Rattle.std.proofs.Math.Nat.{mul-le-mul}
+use Rattle.ballot_form.specs.Ballots.{IsPoll, Poll}
 use Rattle.ballot_form.specs.declared.outcome.Outcome.{Outcome}
 use Rattle.ballot_form.specs.declared.outcome.Outcome.TheVariants.{Winner, NoWinner, Seats}
-use Rattle.ballot_form.specs.declared.rule.Rule.TheVariants.{Plurality}
+use Rattle.ballot_form.specs.declared.rule.Rule.{Rule}
+use Rattle.ballot_form.specs.declared.rule.Rule.TheVariants.{Plurality, Borda, Condorcet, Dhondt, Irv}
+use Rattle.goal_rows.specs.Elections.{Election}
+use Rattle.goal_rows.specs.Goals.{AreRoots, HasPairs, IsRootOf, is_seated, root_goals, those}
+use Rattle.goal_rows.specs.Outcomes.{IsReported}
 use Rattle.goal_rows.specs.declared.goals.Goal.{Goal}
 use Rattle.goal_rows.specs.declared.goals.Goal.TheVariants.{Root, Pair}
-use Rattle.goal_rows.specs.Goals.{Holds, IsComplete, pair_weight, pairs_below, root_goals, rows_of}
-use Rattle.goal_rows.specs.Margins.{Turns}
-use Rattle.goal_rows.specs.Outcomes.{IsReported}
-use Rattle.goal_rows.specs.Pairs.{IsLevel}
-use Rattle.goal_rows.proofs.Turning.{turns_exactly}
+use Rattle.goal_rows.proofs.Lists.{among_lists, among_made, among_those, is_other, lists_are, lists_few, lists_once, made_are, made_few, made_once, other_is, those_are, those_once}
 
--- one candidate more
-pub one_more : (j x : ℕ) (roots : List Goal) → roots ≡ pairs_below j x → j ≢ x → roots ++ Pair j x ∷ [] ≡ pairs_below (j + 1) x
-one_more j x roots is differ =
-    let t : (j == x) ≡ false = grind (arith, nat_tests) in
-    let n : j + 1 ≡ suc j = omega arith in
-    rw (n, t, is) refl
-
-pub none_more : (j x : ℕ) (roots : List Goal) → roots ≡ pairs_below j x → j ≡ x → roots ≡ pairs_below (j + 1) x
-none_more j x roots is same =
-    let t : (j == x) ≡ true = grind (arith, nat_tests) in
-    let n : j + 1 ≡ suc j = omega arith in
-    rw (n, t, is) (sym (append-nil (pairs_below j x)))
-
--- the pairs that are among them
 pair_is : (g l h m : ℕ) → Pair g l ≡ Pair h m → (g ≡ h) × (l ≡ m)
 pair_is g l h m e = (cc, cc)
 
-nothing : {X : Type 0} (x : X) → Contains [] x → ⊥
-nothing x c = omega (arith, c.1)
+-- ---- the pairs with a winner of each other candidate
 
-only : (g l h m : ℕ) → Contains (Pair g l ∷ []) (Pair h m) → (g ≡ h) × (l ≡ m)
-only g l h m (zero, lt, e) = pair_is g l h m e
-only g l h m (suc k, lt, e) = absurd (omega arith)
+abbrev pub with_winner : ℕ → ℕ → List Goal
+with_winner c x = map (λ j. Pair j x) (those c (λ j. not (j == x)))
 
-pub pairs_are : (c x g l : ℕ) → Contains (pairs_below c x) (Pair g l) → (g < c) × (g ≢ x) × (l ≡ x)
-pairs_are zero x g l there = absurd (nothing (Pair g l) there)
-pairs_are (suc c) x g l there = elim (Contains-append_cases (pairs_below c x) (cond (c == x) [] (Pair c x ∷ [])) (Pair g l) there) [
-  | inl below ↦ let h = pairs_are c x g l below in (omega (arith, h.0), h.1, h.2)
-  | inr last ↦ elim (cases_eq c x) [
-    | inl same ↦ let t : (c == x) ≡ true = grind (arith, nat_tests) in let gone : Contains [] (Pair g l) = rw t at last in absurd (nothing (Pair g l) gone)
-    | inr differ ↦
-        let t : (c == x) ≡ false = grind (arith, nat_tests) in
-        let here : Contains (Pair c x ∷ []) (Pair g l) = rw t at last in
-        let is = only c x g l here in
-        (omega (arith, is.0), λ e. differ (is.0 ∙ e), sym is.1)
-  ]
-]
+pub pairs_are : (c x g l : ℕ) → Contains (with_winner c x) (Pair g l) → (g < c) × (g ≢ x) × (l ≡ x)
+pairs_are c x g l there =
+    let is = made_are (λ j. Pair j x) (those c (λ j. not (j == x))) (Pair g l) there in
+    let same = pair_is is.0 x g l is.2 in
+    let among = those_are c is.0 (λ j. not (j == x)) is.1 in
+    (omega (arith, among.0, same.0), λ e. other_is is.0 x among.1 (same.0 ∙ e), sym same.1)
 
-pub pair_among : (c x g : ℕ) → g < c → g ≢ x → Contains (pairs_below c x) (Pair g x)
-pair_among zero x g lt differ = absurd (omega arith)
-pair_among (suc c) x g lt differ = elim (cases_eq g c) [
-  | inl same ↦
-      let t : (c == x) ≡ false = grind (arith, nat_tests) in
-      rw t (Contains-append_right (pairs_below c x) (Pair c x ∷ []) (Pair g x) (0, omega arith, ap (λ y. Pair y x) (sym same)))
-  | inr below ↦ Contains-append_left (pairs_below c x) (cond (c == x) [] (Pair c x ∷ [])) (Pair g x) (pair_among c x g (omega arith) differ)
-]
+pub pair_among : (c x g : ℕ) → g < c → g ≢ x → Contains (with_winner c x) (Pair g x)
+pair_among c x g lt differ =
+    among_made (λ j. Pair j x) (those c (λ j. not (j == x))) g (among_those c g (λ j. not (j == x)) lt (is_other g x differ))
 
--- a pair's row holds where the gainer's score reaches the loser's
-pub pair_value : (c g l : ℕ) (reported : Outcome) (rows : List (List ℕ))
-    → sum_z (pair_weight Plurality c reported g l) rows ≡ pos (score_of plurality_points rows g) -ℤ pos (score_of plurality_points rows l)
-pair_value c g l reported rows = sum_z-difference (λ row. plurality_points row g) (λ row. plurality_points row l) rows
+-- ---- the pairs under D'Hondt
 
-pub one_row : (weight : List ℕ → ℤ) (rows : List (List ℕ)) → pos 0 ≤ℤ sum_z weight rows → Holds (weight ∷ []) rows
-one_row weight rows h zero d lt = h
-one_row weight rows h (suc k) d lt = absurd (omega arith)
+abbrev pub of_gainer : ℕ → List ℕ → ℕ → List Goal
+of_gainer c shares g = map (λ l. Pair g l) (those c (is_seated shares g))
 
-pub pair_holds : (c g l : ℕ) (reported : Outcome) (rows : List (List ℕ)) → score_of plurality_points rows l ≤ score_of plurality_points rows g
-    → Holds (rows_of Plurality c reported (Pair g l)) rows
-pair_holds c g l reported rows level = one_row (pair_weight Plurality c reported g l) rows (rw (pair_value c g l reported rows) (omega (arith, ints)))
+abbrev pub with_seats : ℕ → List ℕ → List Goal
+with_seats c shares = flat_map (λ g. map (λ l. Pair g l) (those c (is_seated shares g))) (range_with_len 0 c)
 
-pub holds_pair : (c g l : ℕ) (reported : Outcome) (rows : List (List ℕ)) → Holds (rows_of Plurality c reported (Pair g l)) rows
-    → score_of plurality_points rows l ≤ score_of plurality_points rows g
-holds_pair c g l reported rows holds =
-    let h : pos 0 ≤ℤ sum_z (pair_weight Plurality c reported g l) rows = holds 0 (pair_weight Plurality c reported g l) (omega arith) in
-    let v = pair_value c g l reported rows in
-    omega (arith, ints, h, v)
+seated_is : (shares : List ℕ) (g l : ℕ) → is_seated shares g l ≡ true → (l ≢ g) × (1 ≤ slice_index shares l)
+seated_is shares g l h = (λ e. grind (arith, nat_tests), grind (arith, nat_tests))
 
--- ---- turning
-goal_of_level : (p : Poll) (x : ℕ) (changes : List (ℕ × List ℕ)) → ((j : ℕ) × IsLevel plurality_points (after p changes) x j)
-    → (goal : Goal) × IsComplete (pairs_below p.c x) goal × Holds (rows_of Plurality p.c (Winner x) goal) (after p changes).ballots
-goal_of_level p x changes level = (
-  Pair level.0 x,
-  pair_among p.c x level.0 level.1.stands level.1.other,
-  pair_holds p.c level.0 x (Winner x) (after p changes).ballots level.1.level,
-)
+seated_where : (shares : List ℕ) (g l : ℕ) → l ≢ g → 1 ≤ slice_index shares l → is_seated shares g l ≡ true
+seated_where shares g l ne some = grind (arith, nat_tests)
 
-level_of_goal : (p : Poll) (x : ℕ) (changes : List (ℕ × List ℕ)) (goal : Goal) → IsComplete (pairs_below p.c x) goal
-    → Holds (rows_of Plurality p.c (Winner x) goal) (after p changes).ballots → (j : ℕ) × IsLevel plurality_points (after p changes) x j
-level_of_goal p x changes Root complete holds = absurd complete
-level_of_goal p x changes (Pair g l) complete holds =
-    let is = pairs_are p.c x g l complete in
-    let level = holds_pair p.c g l (Winner x) (after p changes).ballots holds in
-    (g, record { stands = is.0; other = is.1; level = subst (λ y. score_of plurality_points (after p changes).ballots y ≤ score_of plurality_points (after p changes).ballots g) is.2 level })
+pub seat_pairs_are : (c g l : ℕ) (shares : List ℕ) → Contains (with_seats c shares) (Pair g l) → (g < c) × (l < c) × (l ≢ g) × (1 ≤ slice_index shares l)
+seat_pairs_are c g l shares there =
+    let is = lists_are (of_gainer c shares) c (Pair g l) there in
+    let made = made_are (λ m. Pair is.0 m) (those c (is_seated shares is.0)) (Pair g l) is.2 in
+    let same = pair_is is.0 made.0 g l made.2 in
+    let among = those_are c made.0 (is_seated shares is.0) made.1 in
+    let seated = seated_is shares is.0 made.0 among.1 in
+    (omega (arith, is.1, same.0), omega (arith, among.0, same.1), λ e. seated.0 (same.1 ∙ e ∙ sym same.0), subst (λ m. 1 ≤ slice_index shares m) same.1 seated.1)
 
-pub turning : (p : Poll) (reported : Outcome) (changes : List (ℕ × List ℕ)) → IsReported Plurality p reported → Turns Plurality p changes
-    ↔ ((goal : Goal) × IsComplete (root_goals Plurality p.c reported) goal × Holds (rows_of Plurality p.c reported goal) (after p changes).ballots)
-turning p (Winner x) changes is =
-    let exactly = turns_exactly p x changes is in
-    (λ turns. goal_of_level p x changes (exactly.0 turns), λ met. exactly.1 (level_of_goal p x changes met.0 met.1 met.2))
-turning p NoWinner changes is = absurd is
-turning p (Seats shares) changes is = absurd is
+pub seat_pair_among : (c g l : ℕ) (shares : List ℕ) → g < c → l < c → l ≢ g → 1 ≤ slice_index shares l → Contains (with_seats c shares) (Pair g l)
+seat_pair_among c g l shares gc lc ne some =
+    among_lists (of_gainer c shares) c g (Pair g l) gc
+    (among_made (λ m. Pair g m) (those c (is_seated shares g)) l (among_those c l (is_seated shares g) lc (seated_where shares g l ne some)))
+
+-- ---- they are goals that an election may have below the root
+
+all_by : (P : Goal → Type 0) (goals : List Goal) → ((goal : Goal) → Contains goals goal → P goal) → All P goals
+all_by P goals each k d lt = each (get_or goals k d) (Contains-get_or goals k d lt)
+
+no_roots : (e : Election) → e.roots ≡ [] → AreRoots e
+no_roots e is =
+    let n : length e.roots ≡ 0 = ap length is in
+    record {
+      few = omega (arith, n);
+      distinct = λ i j d less lt. absurd (omega (arith, n, lt));
+      each = λ k d lt. absurd (omega (arith, n, lt));
+    }
+
+winner_root : (e : Election) (x : ℕ) (goal : Goal) → HasPairs e.rule → x < e.poll.c → Contains (with_winner e.poll.c x) goal → IsRootOf e goal
+winner_root e x Root has stands there = let is = made_are (λ j. Pair j x) (those e.poll.c (λ j. not (j == x))) Root there in let h = is.2 in cc
+winner_root e x (Pair g l) has stands there =
+    let is = pairs_are e.poll.c x g l there in
+    (has, is.0, omega (arith, is.2, stands), λ same. is.1 (same ∙ is.2))
+
+winner_roots : (e : Election) (x : ℕ) → HasPairs e.rule → IsPoll e.poll → x < e.poll.c → e.roots ≡ with_winner e.poll.c x → AreRoots e
+winner_roots e x has poll stands is =
+    let n = ap length is in
+    let m = made_few (λ j. Pair j x) e.poll.c (λ j. not (j == x)) in
+    record {
+      few = omega (arith, n, m, poll.most);
+      distinct = subst (λ goals. AllPairs (λ a b. a ≢ b) goals) (sym is)
+          (made_once (λ j. Pair j x) (those e.poll.c (λ j. not (j == x))) (λ i j same. (pair_is i x j x same).0) (those_once e.poll.c (λ j. not (j == x))));
+      each = all_by (IsRootOf e) e.roots (λ goal there. winner_root e x goal has stands (subst (λ goals. Contains goals goal) is there));
+    }
+
+seat_root : (e : Election) (shares : List ℕ) (goal : Goal) → HasPairs e.rule → Contains (with_seats e.poll.c shares) goal → IsRootOf e goal
+seat_root e shares Root has there =
+    let is = lists_are (of_gainer e.poll.c shares) e.poll.c Root there in
+    let made = made_are (λ m. Pair is.0 m) (those e.poll.c (is_seated shares is.0)) Root is.2 in
+    let h = made.2 in
+    cc
+seat_root e shares (Pair g l) has there =
+    let is = seat_pairs_are e.poll.c g l shares there in
+    (has, is.0, is.1, λ same. is.2 (sym same))
+
+one_gainer : (c : ℕ) (shares : List ℕ) (g h : ℕ) (goal : Goal) → Contains (of_gainer c shares g) goal → Contains (of_gainer c shares h) goal → g ≡ h
+one_gainer c shares g h goal here there =
+    let a = made_are (λ m. Pair g m) (those c (is_seated shares g)) goal here in
+    let b = made_are (λ m. Pair h m) (those c (is_seated shares h)) goal there in
+    (pair_is g a.0 h b.0 (a.2 ∙ sym b.2)).0
+
+seat_roots : (e : Election) (shares : List ℕ) → HasPairs e.rule → IsPoll e.poll → e.roots ≡ with_seats e.poll.c shares → AreRoots e
+seat_roots e shares has poll is =
+    let n = ap length is in
+    let m = lists_few (of_gainer e.poll.c shares) e.poll.c e.poll.c (λ g. made_few (λ l. Pair g l) e.poll.c (is_seated shares g)) in
+    let small = mul-le-mul poll.most poll.most in
+    record {
+      few = omega (arith, n, m, small);
+      distinct = subst (λ goals. AllPairs (λ a b. a ≢ b) goals) (sym is)
+          (lists_once (of_gainer e.poll.c shares) e.poll.c
+          (λ g. made_once (λ l. Pair g l) (those e.poll.c (is_seated shares g)) (λ l m same. (pair_is g l g m same).1) (those_once e.poll.c (is_seated shares g)))
+          (one_gainer e.poll.c shares));
+      each = all_by (IsRootOf e) e.roots (λ goal there. seat_root e shares goal has (subst (λ goals. Contains goals goal) is there));
+    }
+
+abbrev under : Rule → Poll → Outcome → List Goal → Election
+under rule p reported roots = record { rule = rule; poll = p; reported = reported; roots = roots }
+
+lawful : (rule : Rule) (p : Poll) (reported : Outcome) (roots : List Goal) → IsPoll p → IsReported rule p reported → roots ≡ root_goals rule p.c reported
+    → AreRoots (under rule p reported roots)
+lawful Plurality p (Winner x) roots poll is roots_are = winner_roots (under Plurality p (Winner x) roots) x tt poll is.greatest.stands roots_are
+lawful Plurality p NoWinner roots poll is roots_are = absurd is
+lawful Plurality p (Seats shares) roots poll is roots_are = absurd is
+lawful Borda p (Winner x) roots poll is roots_are = winner_roots (under Borda p (Winner x) roots) x tt poll is.greatest.stands roots_are
+lawful Borda p NoWinner roots poll is roots_are = absurd is
+lawful Borda p (Seats shares) roots poll is roots_are = absurd is
+lawful Condorcet p (Winner x) roots poll is roots_are = winner_roots (under Condorcet p (Winner x) roots) x tt poll is.stands roots_are
+lawful Condorcet p NoWinner roots poll is roots_are = no_roots (under Condorcet p NoWinner roots) roots_are
+lawful Condorcet p (Seats shares) roots poll is roots_are = absurd is
+lawful (Dhondt seats) p (Seats shares) roots poll is roots_are = seat_roots (under (Dhondt seats) p (Seats shares) roots) shares tt poll roots_are
+lawful (Dhondt seats) p (Winner x) roots poll is roots_are = absurd is
+lawful (Dhondt seats) p NoWinner roots poll is roots_are = absurd is
+lawful Irv p reported roots poll is roots_are = no_roots (under Irv p reported roots) roots_are
+
+pub roots_are_lawful : (e : Election) → IsPoll e.poll → IsReported e.rule e.poll e.reported → e.roots ≡ root_goals e.rule e.poll.c e.reported → AreRoots e
+roots_are_lawful e poll is roots_are = lawful e.rule e.poll e.reported e.roots poll is roots_are

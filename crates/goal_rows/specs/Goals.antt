@@ -1,74 +1,80 @@
--- Goals and their rows. A row gives each ballot a whole weight, and holds on a list of ballots where the sum of the weights is at
--- least 0. The outcome turns exactly where all rows of some complete goal hold after the replacements.
-use Rattle.std.specs.Prelude.{◌≡◌, ℕ, ◌+◌, ◌<◌, ◌==◌, ◌&&◌, not, nat_lt, List, [], ◌∷◌, ◌++◌, Contains, All, Option, Some, None, if◌then◌else◌, length, slice_index, slice_index_or, ℤ, pos, ◌-ℤ◌, ◌≤ℤ◌}
-use Rattle.std.proofs.Common.{zero, suc}
+-- Goals and their rows, after Magrino, Rivest, Shen and Wagner (2011) and Blom, Stuckey, Teague and Tidhar (2016). A row gives each
+-- ballot a whole weight, and holds on a list of ballots where the sum of the weights is at least 0. The outcome turns exactly where all
+-- rows of some complete goal hold after the replacements.
+use Rattle.std.specs.Prelude.{◌≡◌, ◌≢◌, ℕ, ◌+◌, ◌<◌, ◌≤◌, ◌==◌, ◌&&◌, not, nat_lt, List, [], ◌∷◌, Bool, Contains, All, AllPairs, Option, Some, None, if◌then◌else◌, filter, length, map, slice_index, slice_index_or, ℤ, pos, ◌-ℤ◌, ◌≤ℤ◌}
+use Rattle.std.specs.List.{flat_map, range_with_len}
 use Rattle.mov_base.specs.Sums.{sum_z}
+use Rattle.ballot_form.specs.Ballots.{IsPoll}
+use Rattle.ballot_form.specs.Rules.{IsRule}
 use Rattle.ballot_form.specs.Scores.{borda_points, is_first, plurality_points}
 use Rattle.ballot_form.specs.declared.outcome.Outcome.{Outcome}
 use Rattle.ballot_form.specs.declared.outcome.Outcome.TheVariants.{Winner, NoWinner, Seats}
 use Rattle.ballot_form.specs.declared.rule.Rule.{Rule}
 use Rattle.ballot_form.specs.declared.rule.Rule.TheVariants.{Plurality, Borda, Condorcet, Dhondt, Irv}
 use Rattle.condorcet_count.specs.Preferences.{prefers}
+use Rattle.row_program.specs.declared.limits.TheConstants.{MOST_KIDS}
+use Rattle.goal_rows.specs.Elections.{Election}
+use Rattle.goal_rows.specs.Outcomes.{IsReported}
 use Rattle.goal_rows.specs.declared.goals.Goal.{Goal}
 use Rattle.goal_rows.specs.declared.goals.Goal.TheVariants.{Root, Pair}
 
+-- ---- rows
+
 -- the seats of a candidate in an outcome
 abbrev pub seats_in : Outcome → ℕ → ℕ
-seats_in (Winner x) a = 0
-seats_in NoWinner a = 0
 seats_in (Seats shares) a = slice_index shares a
+seats_in outcome a = 0
 
--- what a ballot counts for the gainer g of a pair with the loser l, of c candidates, with this reported outcome
-abbrev pub gainer_points : Rule → ℕ → Outcome → ℕ → ℕ → List ℕ → ℕ
-gainer_points Plurality c reported g l row = plurality_points row g
-gainer_points Borda c reported g l row = borda_points c row g
-gainer_points Condorcet c reported g l row = if prefers row g l then 1 else 0
-gainer_points (Dhondt seats) c reported g l row = if is_first row g then seats_in reported l else 0
-gainer_points Irv c reported g l row = 0
+-- what a ballot counts for the gainer g of a pair with the loser l
+abbrev pub gainer_points : Election → ℕ → ℕ → List ℕ → ℕ
+gainer_points e g l ballot = elim e.rule [
+  | Plurality ↦ plurality_points ballot g
+  | Borda ↦ borda_points e.poll.c ballot g
+  | Condorcet ↦ if prefers ballot g l then 1 else 0
+  | Dhondt seats ↦ if is_first ballot g then seats_in e.reported l else 0
+  | Irv ↦ 0
+]
 
 -- and what it counts for the loser
-abbrev pub loser_points : Rule → ℕ → Outcome → ℕ → ℕ → List ℕ → ℕ
-loser_points Plurality c reported g l row = plurality_points row l
-loser_points Borda c reported g l row = borda_points c row l
-loser_points Condorcet c reported g l row = if prefers row l g then 1 else 0
-loser_points (Dhondt seats) c reported g l row = if is_first row l then seats_in reported g + 1 else 0
-loser_points Irv c reported g l row = 0
+abbrev pub loser_points : Election → ℕ → ℕ → List ℕ → ℕ
+loser_points e g l ballot = elim e.rule [
+  | Plurality ↦ plurality_points ballot l
+  | Borda ↦ borda_points e.poll.c ballot l
+  | Condorcet ↦ if prefers ballot l g then 1 else 0
+  | Dhondt seats ↦ if is_first ballot l then seats_in e.reported g + 1 else 0
+  | Irv ↦ 0
+]
 
 -- the weight that a pair's row gives a ballot
-abbrev pub pair_weight : Rule → ℕ → Outcome → ℕ → ℕ → List ℕ → ℤ
-pair_weight rule c reported g l row = pos (gainer_points rule c reported g l row) -ℤ pos (loser_points rule c reported g l row)
+abbrev pub pair_weight : Election → ℕ → ℕ → List ℕ → ℤ
+pair_weight e g l ballot = pos (gainer_points e g l ballot) -ℤ pos (loser_points e g l ballot)
 
 -- the rows of a goal
-abbrev pub rows_of : Rule → ℕ → Outcome → Goal → List (List ℕ → ℤ)
-rows_of rule c reported Root = []
-rows_of rule c reported (Pair g l) = pair_weight rule c reported g l ∷ []
+abbrev pub rows_of : Election → Goal → List (List ℕ → ℤ)
+rows_of e Root = []
+rows_of e (Pair g l) = pair_weight e g l ∷ []
 
--- all rows hold on the ballots
-abbrev pub Holds : List (List ℕ → ℤ) → List (List ℕ) → Type 0
-Holds weights rows = All (λ weight. pos 0 ≤ℤ sum_z weight rows) weights
+-- all rows of the goal hold on the ballots
+abbrev pub Holds : Election → Goal → List (List ℕ) → Type 0
+Holds e goal ballots = All (λ weight. pos 0 ≤ℤ sum_z weight ballots) (rows_of e goal)
 
--- the pairs with x of each other candidate below c, ascending
-abbrev pub pairs_below : ℕ → ℕ → List Goal
-pairs_below zero x = []
-pairs_below (suc c) x = pairs_below c x ++ (if c == x then [] else Pair c x ∷ [])
+-- ---- the goals below the root
 
--- the pairs of g with each other candidate below l that has a seat, ascending
-abbrev pub seated_below : ℕ → ℕ → List ℕ → List Goal
-seated_below zero g shares = []
-seated_below (suc l) g shares = seated_below l g shares ++ (if not (l == g) && nat_lt 0 (slice_index shares l) then Pair g l ∷ [] else [])
+-- the candidates below c that pass, ascending
+abbrev pub those : ℕ → (ℕ → Bool) → List ℕ
+those c test = filter test (range_with_len 0 c)
 
--- those of each gainer below g, ascending, of c candidates
-abbrev pub seat_pairs : ℕ → ℕ → List ℕ → List Goal
-seat_pairs zero c shares = []
-seat_pairs (suc g) c shares = seat_pairs g c shares ++ seated_below c g shares
+-- l is another candidate than g, and has a seat
+abbrev pub is_seated : List ℕ → ℕ → ℕ → Bool
+is_seated shares g l = not (l == g) && nat_lt 0 (slice_index shares l)
 
--- the goals below the root. Where a winner is reported by scores or by pairs, they are the pairs of each other candidate, ascending,
--- with the winner; under D'Hondt the pairs of each candidate with each other one that has a seat
+-- the goals into which the root is split, of c candidates. Where a winner is reported by scores or by pairs, they are the pairs of
+-- each other candidate, ascending, with the winner; under D'Hondt the pairs of each candidate with each other one that has a seat
 abbrev pub root_goals : Rule → ℕ → Outcome → List Goal
-root_goals Plurality c (Winner x) = pairs_below c x
-root_goals Borda c (Winner x) = pairs_below c x
-root_goals Condorcet c (Winner x) = pairs_below c x
-root_goals (Dhondt seats) c (Seats shares) = seat_pairs c c shares
+root_goals Plurality c (Winner x) = map (λ j. Pair j x) (those c (λ j. not (j == x)))
+root_goals Borda c (Winner x) = map (λ j. Pair j x) (those c (λ j. not (j == x)))
+root_goals Condorcet c (Winner x) = map (λ j. Pair j x) (those c (λ j. not (j == x)))
+root_goals (Dhondt seats) c (Seats shares) = flat_map (λ g. map (λ l. Pair g l) (those c (is_seated shares g))) (range_with_len 0 c)
 root_goals rule c reported = []
 
 -- the rule is decided by pairs of candidates: all but instant runoff, and Condorcet's where there is no winner
@@ -77,31 +83,55 @@ IsDecidedByPairs Irv reported = ⊥
 IsDecidedByPairs Condorcet NoWinner = ⊥
 IsDecidedByPairs rule reported = Unit {0}
 
+-- the rule knows pairs: all but instant runoff
+abbrev pub HasPairs : Rule → Type 0
+HasPairs Irv = ⊥
+HasPairs rule = Unit {0}
+
+-- a goal that the root is split into for some reported outcome of the rule
+abbrev pub IsRootOf : Election → Goal → Type 0
+IsRootOf e Root = ⊥
+IsRootOf e (Pair g l) = HasPairs e.rule × (g < e.poll.c) × (l < e.poll.c) × (g ≢ l)
+
+-- goals that an election may have below the root: few, each once, and each such a goal
+pub record AreRoots (e : Election) : Type 0 where
+  pub few : length e.roots ≤ MOST_KIDS
+  pub distinct : AllPairs (λ a b. a ≢ b) e.roots
+  pub each : All (IsRootOf e) e.roots
+
+-- an election with its own reported outcome, and with goals that it may have below the root
+pub record IsElection (e : Election) : Type 0 where
+  pub lawful : IsRule e.rule
+  pub poll : IsPoll e.poll
+  pub reported : IsReported e.rule e.poll e.reported
+  pub roots : AreRoots e
+
+-- ---- covers
+
 -- the goals that a goal is split into, where it has a cover: one of them holds where it holds on the way to a complete goal
-abbrev pub cover_of : List Goal → Goal → Option (List Goal)
-cover_of roots Root = Some roots
-cover_of roots (Pair g l) = None
+abbrev pub cover_of : Election → Goal → Option (List Goal)
+cover_of e Root = Some e.roots
+cover_of e (Pair g l) = None
 
 -- the outcome turns where such a goal holds: it is one of the root's, and has no cover of its own
-abbrev pub IsComplete : List Goal → Goal → Type 0
-IsComplete roots Root = ⊥
-IsComplete roots (Pair g l) = Contains roots (Pair g l)
-
--- a goal that is the root or reached from it through covers
-abbrev pub IsReached : List Goal → Goal → Type 0
-IsReached roots Root = Unit {0}
-IsReached roots (Pair g l) = Contains roots (Pair g l)
+abbrev pub IsComplete : Election → Goal → Type 0
+IsComplete e Root = ⊥
+IsComplete e (Pair g l) = Contains e.roots (Pair g l)
 
 -- the goal at this place of a goal's cover, from 0
-abbrev pub IsKid : List Goal → Goal → ℕ → Goal → Type 0
-IsKid roots goal place kid = (kids : List Goal) × (cover_of roots goal ≡ Some kids) × (place < length kids) × (slice_index_or kids place kid ≡ kid)
+abbrev pub IsKid : Election → Goal → ℕ → Goal → Type 0
+IsKid e goal place kid = (kids : List Goal) × (cover_of e goal ≡ Some kids) × (place < length kids) × (slice_index_or kids place kid ≡ kid)
 
 -- a way through covers from a goal to another, by the places of the goals on it
-abbrev pub LeadsTo : List Goal → Goal → List ℕ → Goal → Type 0
-LeadsTo roots goal [] end = goal ≡ end
-LeadsTo roots goal (place ∷ places) end = (kid : Goal) × IsKid roots goal place kid × LeadsTo roots kid places end
+abbrev pub LeadsTo : Election → Goal → List ℕ → Goal → Type 0
+LeadsTo e goal [] end = goal ≡ end
+LeadsTo e goal (place ∷ places) end = (kid : Goal) × IsKid e goal place kid × LeadsTo e kid places end
 
 -- this way leads there, and no other one does
-pub record IsOnlyWay (roots : List Goal) (goal : Goal) (way : List ℕ) (end : Goal) : Type 0 where
-  pub leads : LeadsTo roots goal way end
-  pub only : (other : List ℕ) → LeadsTo roots goal other end → other ≡ way
+pub record IsOnlyWay (e : Election) (goal : Goal) (way : List ℕ) (end : Goal) : Type 0 where
+  pub leads : LeadsTo e goal way end
+  pub only : (other : List ℕ) → LeadsTo e goal other end → other ≡ way
+
+-- a goal that is the root or reached from it through covers
+abbrev pub IsReached : Election → Goal → Type 0
+IsReached e goal = (way : List ℕ) × LeadsTo e Root way goal

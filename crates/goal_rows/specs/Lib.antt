@@ -1,6 +1,8 @@
 pub mod Outcomes
 pub mod Margins
-pub mod Pairs
+pub mod Elections
 pub mod Goals
+pub mod Nodes
 pub mod Races
+pub mod Pairs
 pub mod SeatGains

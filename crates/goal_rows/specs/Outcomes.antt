@@ -25,37 +25,21 @@ pub record IsLowestWithGreatest (points : List ℕ → ℕ → ℕ) (p : Poll) (
 -- nobody where none is in some settling; an allocation of the seats; the last of some legal order
 abbrev pub Admits : Rule → Poll → Outcome → Type 0
 Admits Plurality p (Winner x) = HasGreatestScore plurality_points p x
-Admits Plurality p NoWinner = ⊥
-Admits Plurality p (Seats shares) = ⊥
 Admits Borda p (Winner x) = HasGreatestScore (borda_points p.c) p x
-Admits Borda p NoWinner = ⊥
-Admits Borda p (Seats shares) = ⊥
 Admits Condorcet p (Winner x) = IsAdmittedOutcome p.c (pref_of p.ballots) (Some x)
 Admits Condorcet p NoWinner = IsAdmittedOutcome p.c (pref_of p.ballots) None
-Admits Condorcet p (Seats shares) = ⊥
-Admits (Dhondt seats) p (Winner x) = ⊥
-Admits (Dhondt seats) p NoWinner = ⊥
 Admits (Dhondt seats) p (Seats shares) = IsAllocation (votes_of p) seats shares
 Admits Irv p (Winner x) = (order : List ℕ) × IsLegalOrder p order × IsLast order x
-Admits Irv p NoWinner = ⊥
-Admits Irv p (Seats shares) = ⊥
+Admits rule p outcome = ⊥
 
 -- the outcome that the rule's own choice at the ties gives: the lowest-numbered with the greatest score; the outcome of the settling
 -- that gives tied pairs to the lower number; the seats of the highest quotients, the lower-numbered party's first among equals; the
 -- last of the legal order in which the highest-numbered of the least goes out
 abbrev pub IsReported : Rule → Poll → Outcome → Type 0
 IsReported Plurality p (Winner x) = IsLowestWithGreatest plurality_points p x
-IsReported Plurality p NoWinner = ⊥
-IsReported Plurality p (Seats shares) = ⊥
 IsReported Borda p (Winner x) = IsLowestWithGreatest (borda_points p.c) p x
-IsReported Borda p NoWinner = ⊥
-IsReported Borda p (Seats shares) = ⊥
 IsReported Condorcet p (Winner x) = IsReportedOutcome p.c (pref_of p.ballots) (Some x)
 IsReported Condorcet p NoWinner = IsReportedOutcome p.c (pref_of p.ballots) None
-IsReported Condorcet p (Seats shares) = ⊥
-IsReported (Dhondt seats) p (Winner x) = ⊥
-IsReported (Dhondt seats) p NoWinner = ⊥
 IsReported (Dhondt seats) p (Seats shares) = shares ≡ reported_seats (votes_of p) seats
 IsReported Irv p (Winner x) = (order : List ℕ) × IsOrderBy None p order × IsLast order x
-IsReported Irv p NoWinner = ⊥
-IsReported Irv p (Seats shares) = ⊥
+IsReported rule p outcome = ⊥

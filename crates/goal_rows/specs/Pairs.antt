@@ -11,25 +11,25 @@ use Rattle.goal_rows.specs.Margins.{IsMargin, Turns}
 
 -- how much the gainer gets closer where this ballot is replaced by one that counts top
 abbrev pub gain_of : ℕ → (List ℕ → ℕ) → (List ℕ → ℕ) → List ℕ → ℕ
-gain_of top plus minus row = (top + minus row) - plus row
+gain_of top plus minus ballot = (top + minus ballot) - plus ballot
 
 -- by how much the gainer is behind
 abbrev pub deficit_of : (List ℕ → ℕ) → (List ℕ → ℕ) → List (List ℕ) → ℕ
-deficit_of plus minus rows = add_up minus rows - add_up plus rows
+deficit_of plus minus ballots = add_up minus ballots - add_up plus ballots
 
 -- the k largest gains make up what the gainer is behind
-abbrev pub Reaches : ℕ → (List ℕ → ℕ) → (List ℕ → ℕ) → List (List ℕ) → ℕ → Type 0
-Reaches top plus minus rows k = deficit_of plus minus rows ≤ most k (map (gain_of top plus minus) rows)
+abbrev pub Reaches : ℕ → List ℕ → ℕ → Type 0
+Reaches deficit gains k = deficit ≤ most k gains
 
 -- under plurality a ballot counts 1 for its first candidate
 abbrev pub points_for : ℕ → List ℕ → ℕ
-points_for x = λ row. plurality_points row x
+points_for x = λ ballot. plurality_points ballot x
 
 abbrev pub plurality_gains : ℕ → ℕ → List (List ℕ) → List ℕ
-plurality_gains g l rows = map (gain_of 1 (points_for g) (points_for l)) rows
+plurality_gains g l ballots = map (gain_of 1 (points_for g) (points_for l)) ballots
 
 abbrev pub PluralityReaches : List (List ℕ) → ℕ → ℕ → ℕ → Type 0
-PluralityReaches rows g l k = Reaches 1 (points_for g) (points_for l) rows k
+PluralityReaches ballots g l k = Reaches (deficit_of (points_for g) (points_for l) ballots) (plurality_gains g l ballots) k
 
 -- of all challengers of x, g is the lowest-numbered that the fewest replacements bring level, and k is their number
 pub record IsNearest (p : Poll) (x g k : ℕ) : Type 0 where
@@ -57,9 +57,10 @@ pub record IsCheapest (p : Poll) (x g : ℕ) (numbers : List ℕ) : Type 0 where
 
 -- the numbers of the first k ballots that x leads, where the first ballot has the number i
 abbrev pub first_led : ℕ → ℕ → ℕ → List (List ℕ) → List ℕ
-first_led x i zero rows = []
+first_led x i zero ballots = []
 first_led x i (suc k) [] = []
-first_led x i (suc k) (row ∷ rows) = if is_first row x then i ∷ first_led x (i + 1) k rows else first_led x (i + 1) (suc k) rows
+first_led x i (suc k) (ballot ∷ ballots) =
+    if is_first ballot x then i ∷ first_led x (i + 1) k ballots else first_led x (i + 1) (suc k) ballots
 
 -- j is a challenger of x whose score reaches that of x
 pub record IsLevel (points : List ℕ → ℕ → ℕ) (p : Poll) (x j : ℕ) : Type 0 where

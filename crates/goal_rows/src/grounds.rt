@@ -3,22 +3,22 @@ ghost use Rattle.std.specs.Prelude.{◌≡◌, ◌≤◌, ◌*◌, pos, ◌-ℤ�
 ghost use Rattle.mov_base.specs.Sums.{add_up};
 ghost use Rattle.signature_class.specs.Classes.{add_all};
 ghost use Rattle.goal_rows.specs.Goals.{gainer_points, loser_points, pair_weight};
-ghost use Rattle.goal_rows.specs.Races.{IsGroundOf, IsRace, keyed, pair_key};
+ghost use Rattle.goal_rows.specs.Races.{IsGroundOf, IsRace, election_of, key_of, keyed};
 ghost use Rattle.goal_rows.specs.declared.goals.Goal.TheVariants.{Pair};
 
 use crate::goals::Goal;
 use crate::parts::{Ground, Race, SumList};
 use crate::points::{for_gainer, for_loser};
-use ballot_form::Cand;
+use ballot_form::{Cand, MOST_BALLOTS};
 use mov_base::Memory;
 use signature_class::Classes;
 use std::alloc::Global;
 
 /// The goal's classes of ballots, the value of each of its rows, the number of ballots, and the weight of the gainer alone.
 pub fn ground(alloc: Global, race: &Race<'_>, goal: &Goal) -> Result<Ground, Memory>
-    requires race { IsRace race.now.rule race.now.roll.now race.now.kinds race.now.reported race.now.roots }
-    ensures goal { IfOk result (λ node. node.goal ≡ goal.now) }
-    ensures values { IfOk result (λ node. IsGroundOf race.now.rule race.now.roll.now race.now.reported goal.now node.classes node.sums node.ballots node.lone) }
+    requires race { IsRace race.now }
+    ensures goal { IfOk result (λ start. start.goal ≡ goal.now) }
+    ensures values { IfOk result (IsGroundOf (election_of race.now)) }
 {
     match goal {
         Goal::Root => Ok(Ground {
@@ -35,9 +35,9 @@ pub fn ground(alloc: Global, race: &Race<'_>, goal: &Goal) -> Result<Ground, Mem
 /// What a pair is before any replacement.
 #[tactic(auto, using(crate::proofs::Classed::pair_values, crate::proofs::Classed::few_kinds))]
 fn under_pair(alloc: Global, race: &Race<'_>, gainer: Cand, loser: Cand) -> Result<Ground, Memory>
-    requires race { IsRace race.now.rule race.now.roll.now race.now.kinds race.now.reported race.now.roots }
-    ensures goal { IfOk result (λ node. node.goal ≡ Pair gainer loser) }
-    ensures values { IfOk result (λ node. IsGroundOf race.now.rule race.now.roll.now race.now.reported (Pair gainer loser) node.classes node.sums node.ballots node.lone) }
+    requires race { IsRace race.now }
+    ensures goal { IfOk result (λ start. start.goal ≡ Pair gainer loser) }
+    ensures values { IfOk result (IsGroundOf (election_of race.now)) }
 {
     let ballots = race.roll.len();
     let classes = pair_classes(alloc, race, gainer, loser)?;
@@ -53,16 +53,16 @@ fn under_pair(alloc: Global, race: &Race<'_>, gainer: Cand, loser: Cand) -> Resu
 
 /// The weight that the pair's row gives the ballot.
 fn weight(race: &Race<'_>, gainer: Cand, loser: Cand, row: &[Cand]) -> i64
-    ensures { result ≡ pair_weight race.now.rule race.now.roll.now.c race.now.reported gainer loser row.now }
+    ensures { result ≡ pair_weight (election_of race.now) gainer loser row.now }
 {
     for_gainer(race, gainer, loser, row) as i64 - for_loser(race, gainer, loser, row) as i64
 }
 
 /// The value of the pair's row.
 fn value(race: &Race<'_>, gainer: Cand, loser: Cand) -> i64
-    requires few { add_up (λ k. k.1) race.now.kinds ≤ 1000000 }
-    ensures { result ≡ pos (add_up (λ k. k.1 * gainer_points race.now.rule race.now.roll.now.c race.now.reported gainer loser k.0) race.now.kinds)
-        -ℤ pos (add_up (λ k. k.1 * loser_points race.now.rule race.now.roll.now.c race.now.reported gainer loser k.0) race.now.kinds) }
+    requires few { add_up (λ k. k.1) race.now.kinds ≤ MOST_BALLOTS }
+    ensures { result ≡ pos (add_up (λ k. k.1 * gainer_points (election_of race.now) gainer loser k.0) race.now.kinds)
+        -ℤ pos (add_up (λ k. k.1 * loser_points (election_of race.now) gainer loser k.0) race.now.kinds) }
 {
     let (gained, lost) = counts(race, gainer, loser);
     gained as i64 - lost as i64
@@ -85,8 +85,8 @@ fn pair_classes(
     gainer: Cand,
     loser: Cand,
 ) -> Result<Classes, Memory>
-    requires few { add_up (λ k. k.1) race.now.kinds ≤ 1000000 }
-    ensures { IfOk result (λ classes. classes ≡ add_all nat_eq [] (keyed (pair_key race.now.rule race.now.roll.now.c race.now.reported gainer loser) race.now.kinds)) }
+    requires few { add_up (λ k. k.1) race.now.kinds ≤ MOST_BALLOTS }
+    ensures { IfOk result (λ classes. classes ≡ add_all nat_eq [] (keyed (key_of (election_of race.now) (Pair gainer loser)) race.now.kinds)) }
 {
     let mut classes = Classes::new(alloc);
     for i in 0..race.kinds.len() {
@@ -98,7 +98,7 @@ fn pair_classes(
 
 /// The key of a ballot under the pair.
 fn key(race: &Race<'_>, gainer: Cand, loser: Cand, row: &[Cand]) -> u64
-    ensures { result ≡ pair_key race.now.rule race.now.roll.now.c race.now.reported gainer loser row.now }
+    ensures { result ≡ key_of (election_of race.now) (Pair gainer loser) row.now }
 {
     (for_gainer(race, gainer, loser, row) + 1024).saturating_sub(for_loser(
         race, gainer, loser, row,
@@ -108,9 +108,9 @@ fn key(race: &Race<'_>, gainer: Cand, loser: Cand, row: &[Cand]) -> u64
 /// What all ballots count for the gainer, and what they count for the loser.
 #[tactic(auto, using(crate::proofs::Classed::counted_more, crate::proofs::Classed::kinds_more, crate::proofs::Classed::kinds_few))]
 fn counts(race: &Race<'_>, gainer: Cand, loser: Cand) -> (u64, u64)
-    requires few { add_up (λ k. k.1) race.now.kinds ≤ 1000000 }
-    ensures gained { result.0 ≡ add_up (λ k. k.1 * gainer_points race.now.rule race.now.roll.now.c race.now.reported gainer loser k.0) race.now.kinds }
-    ensures lost { result.1 ≡ add_up (λ k. k.1 * loser_points race.now.rule race.now.roll.now.c race.now.reported gainer loser k.0) race.now.kinds }
+    requires few { add_up (λ k. k.1) race.now.kinds ≤ MOST_BALLOTS }
+    ensures gained { result.0 ≡ add_up (λ k. k.1 * gainer_points (election_of race.now) gainer loser k.0) race.now.kinds }
+    ensures lost { result.1 ≡ add_up (λ k. k.1 * loser_points (election_of race.now) gainer loser k.0) race.now.kinds }
     ensures few_gained { result.0 ≤ 65536000000 }
     ensures few_lost { result.1 ≤ 65536000000 }
 {

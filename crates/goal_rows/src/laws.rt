@@ -1,17 +1,18 @@
 // What follows from the definitions.
-ghost use Rattle.std.specs.Prelude.{◌≡◌, ◌≢◌, ◌↔◌, ◌+◌, ◌≤◌, ℕ, List, length};
+ghost use Rattle.std.specs.Prelude.{◌≡◌, ◌≢◌, ◌↔◌, ◌⊎◌, ◌+◌, ◌≤◌, ℕ, List, Contains, length, map};
 ghost use Rattle.mov_base.specs.Sums.{add_up};
 ghost use Rattle.ballot_form.specs.Alterations.{IsAlteration, after};
 ghost use Rattle.ballot_form.specs.Ballots.{IsPoll, IsValidBallot, Poll};
 ghost use Rattle.ballot_form.specs.Scores.{plurality_points};
 ghost use Rattle.ballot_form.specs.declared.outcome.Outcome.{Outcome as AnOutcome};
 ghost use Rattle.ballot_form.specs.declared.rule.Rule.{Rule as ARule};
-ghost use Rattle.goal_rows.specs.Goals.{Holds, IsComplete, IsDecidedByPairs, IsOnlyWay, IsReached, LeadsTo, root_goals, rows_of};
+ghost use Rattle.goal_rows.specs.Elections.{Election};
+ghost use Rattle.goal_rows.specs.Goals.{AreRoots, Holds, IsComplete, IsDecidedByPairs, IsElection, IsOnlyWay, IsReached, LeadsTo, root_goals};
 ghost use Rattle.goal_rows.specs.Margins.{IsMargin, Turns};
 ghost use Rattle.ballot_form.specs.declared.outcome.Outcome.TheVariants.{Winner};
 ghost use Rattle.ballot_form.specs.declared.rule.Rule.TheVariants.{Plurality};
 ghost use Rattle.goal_rows.specs.Outcomes.{IsReported};
-ghost use Rattle.goal_rows.specs.Pairs.{IsLevel, Reaches};
+ghost use Rattle.goal_rows.specs.Pairs.{IsLevel, Reaches, deficit_of, gain_of};
 ghost use Rattle.goal_rows.specs.SeatGains.{IsSeatGain};
 ghost use Rattle.goal_rows.specs.declared.goals.Goal.{Goal as AGoal};
 ghost use Rattle.goal_rows.specs.declared.goals.Goal.TheVariants.{Root};
@@ -38,8 +39,9 @@ pub fn plurality_turns_where_a_challenger_is_level()
 /// for the loser.
 pub fn replacements_bring_at_most_the_largest_gains()
     ensures { (top : ℕ) (plus minus : List ℕ → ℕ) (p : Poll) (changes : List (ℕ × List ℕ)) →
-        ((row : List ℕ) → IsValidBallot p.c row → plus row ≤ top + minus row) → IsAlteration p changes →
-        add_up minus (after p changes).ballots ≤ add_up plus (after p changes).ballots → Reaches top plus minus p.ballots (length changes) }
+        ((ballot : List ℕ) → IsValidBallot p.c ballot → plus ballot ≤ top + minus ballot) → IsAlteration p changes →
+        add_up minus (after p changes).ballots ≤ add_up plus (after p changes).ballots →
+        Reaches (deficit_of plus minus p.ballots) (map (gain_of top plus minus) p.ballots) (length changes) }
 {}
 
 /// Another allocation of seats than a given one is admitted exactly where the next quotient of some party reaches the last one of
@@ -52,26 +54,28 @@ pub fn other_seats_are_admitted_where_a_party_gains()
 /// Under the rules that are decided by pairs the outcome turns exactly where the rows of some complete goal hold after the
 /// replacements.
 pub fn the_outcome_turns_where_a_pair_holds()
-    ensures { (rule : ARule) (p : Poll) (reported : AnOutcome) (changes : List (ℕ × List ℕ)) → IsDecidedByPairs rule reported → IsPoll p →
-        IsReported rule p reported → Turns rule p changes
-        ↔ ((goal : AGoal) × IsComplete (root_goals rule p.c reported) goal × Holds (rows_of rule p.c reported goal) (after p changes).ballots) }
+    ensures { (e : Election) (changes : List (ℕ × List ℕ)) → IsElection e → IsDecidedByPairs e.rule e.reported →
+        e.roots ≡ root_goals e.rule e.poll.c e.reported →
+        Turns e.rule e.poll changes ↔ ((goal : AGoal) × IsComplete e goal × Holds e goal (after e.poll changes).ballots) }
+{}
+
+/// The root goals of a contest with its reported outcome are goals that an election may have below the root.
+pub fn the_root_goals_are_roots()
+    ensures { (e : Election) → IsPoll e.poll → IsReported e.rule e.poll e.reported → e.roots ≡ root_goals e.rule e.poll.c e.reported → AreRoots e }
 {}
 
 /// A complete goal is reached from the root through covers in just one way.
 pub fn a_complete_goal_is_reached_in_one_way()
-    ensures { (rule : ARule) (c : ℕ) (reported : AnOutcome) (goal : AGoal) → IsComplete (root_goals rule c reported) goal →
-        (way : List ℕ) × IsOnlyWay (root_goals rule c reported) Root way goal }
+    ensures { (e : Election) (goal : AGoal) → AreRoots e → IsComplete e goal → (way : List ℕ) × IsOnlyWay e Root way goal }
 {}
 
 /// Where a complete goal holds, every goal on the way to it from the root holds too.
 pub fn goals_on_the_way_hold()
-    ensures { (rule : ARule) (c : ℕ) (reported : AnOutcome) (between goal : AGoal) (before behind : List ℕ) (rows : List (List ℕ)) →
-        IsComplete (root_goals rule c reported) goal → LeadsTo (root_goals rule c reported) Root before between →
-        LeadsTo (root_goals rule c reported) between behind goal → Holds (rows_of rule c reported goal) rows →
-        Holds (rows_of rule c reported between) rows }
+    ensures { (e : Election) (between goal : AGoal) (before behind : List ℕ) (ballots : List (List ℕ)) → IsComplete e goal →
+        LeadsTo e Root before between → LeadsTo e between behind goal → Holds e goal ballots → Holds e between ballots }
 {}
 
-/// The goals that are reached are those to which a way leads from the root.
-pub fn a_reached_goal_has_a_way()
-    ensures { (roots : List AGoal) (goal : AGoal) → IsReached roots goal ↔ ((way : List ℕ) × LeadsTo roots Root way goal) }
+/// The goals that are reached are the root and those that it is split into.
+pub fn a_reached_goal_is_the_root_or_a_root_goal()
+    ensures { (e : Election) (goal : AGoal) → IsReached e goal ↔ ((goal ≡ Root) ⊎ Contains e.roots goal) }
 {}

@@ -21,14 +21,12 @@ mod rows;
 pub use goals::{Goal, GoalList};
 pub use grounds::ground;
 pub use laws::{
-    a_complete_goal_is_reached_in_one_way, a_margin_is_one_number, a_reached_goal_has_a_way,
-    a_reported_outcome_is_one, goals_on_the_way_hold, other_seats_are_admitted_where_a_party_gains,
-    plurality_turns_where_a_challenger_is_level, replacements_bring_at_most_the_largest_gains,
-    the_outcome_turns_where_a_pair_holds,
+    a_complete_goal_is_reached_in_one_way, a_margin_is_one_number,
+    a_reached_goal_is_the_root_or_a_root_goal, a_reported_outcome_is_one, goals_on_the_way_hold,
+    other_seats_are_admitted_where_a_party_gains, plurality_turns_where_a_challenger_is_level,
+    replacements_bring_at_most_the_largest_gains, the_outcome_turns_where_a_pair_holds,
+    the_root_goals_are_roots,
 };
 pub use outcomes::reported;
-pub use races::{cover, is_complete, kid_count, race};
-pub use rows::rows_hold;
-
-#[cfg(test)]
-mod tests;
+pub use races::{cover, is_complete, kid_count, race, row_count};
+pub use rows::{MOST_ROWS, rows_hold};

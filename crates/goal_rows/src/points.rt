@@ -3,13 +3,14 @@ ghost use Rattle.std.specs.Prelude.{◌≡◌, ◌≤◌, if◌then◌else◌, s
 ghost use Rattle.ballot_form.specs.Scores.{borda_points, is_first, place_of};
 ghost use Rattle.condorcet_count.specs.Preferences.{prefers};
 ghost use Rattle.goal_rows.specs.Goals.{gainer_points, loser_points, seats_in};
+ghost use Rattle.goal_rows.specs.Races.{election_of};
 
 use crate::parts::Race;
 use ballot_form::{Cand, Outcome, Rule};
 
 /// What the ballot counts for the gainer of a pair.
 pub(crate) fn for_gainer(race: &Race<'_>, gainer: Cand, loser: Cand, row: &[Cand]) -> u64
-    ensures value { result ≡ gainer_points race.now.rule race.now.roll.now.c race.now.reported gainer loser row.now }
+    ensures value { result ≡ gainer_points (election_of race.now) gainer loser row.now }
     ensures few { result ≤ 65536 }
 {
     match race.rule {
@@ -23,7 +24,7 @@ pub(crate) fn for_gainer(race: &Race<'_>, gainer: Cand, loser: Cand, row: &[Cand
 
 /// What the ballot counts for the loser of a pair.
 pub(crate) fn for_loser(race: &Race<'_>, gainer: Cand, loser: Cand, row: &[Cand]) -> u64
-    ensures value { result ≡ loser_points race.now.rule race.now.roll.now.c race.now.reported gainer loser row.now }
+    ensures value { result ≡ loser_points (election_of race.now) gainer loser row.now }
     ensures few { result ≤ 65536 }
 {
     match race.rule {

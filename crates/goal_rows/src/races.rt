@@ -1,12 +1,13 @@
 // Contests under a rule, and the goals of one.
-ghost use Rattle.std.specs.Prelude.{◌≡◌, ◌↔◌, ◌++◌, ◌==◌, ◌&&◌, not, nat_lt, slice_index, ℕ, List, length, option_map, Contains, IfOk, IsTrue, OnOk};
+ghost use Rattle.std.specs.Prelude.{◌≡◌, ◌↔◌, ◌++◌, ◌==◌, not, ℕ, List, length, map, option_map, Contains, IfOk, IsTrue, OnOk};
+ghost use Rattle.std.specs.List.{flat_map, range_with_len};
 ghost use Rattle.ballot_form.specs.Alterations.{after};
 ghost use Rattle.ballot_form.specs.Rules.{IsRule};
 ghost use Rattle.ballot_form.specs.declared.outcome.Outcome.{Outcome as AnOutcome};
-ghost use Rattle.goal_rows.specs.Goals.{Holds, IsComplete, IsDecidedByPairs, cover_of, pairs_below, root_goals, rows_of, seat_pairs, seated_below};
+ghost use Rattle.goal_rows.specs.Goals.{Holds, IsComplete, IsDecidedByPairs, cover_of, is_seated as seated_test, root_goals, rows_of, those};
 ghost use Rattle.goal_rows.specs.Margins.{Turns};
 ghost use Rattle.goal_rows.specs.Outcomes.{IsReported};
-ghost use Rattle.goal_rows.specs.Races.{IsRace};
+ghost use Rattle.goal_rows.specs.Races.{IsRace, election_of};
 ghost use Rattle.goal_rows.specs.declared.goals.Goal.{Goal as AGoal};
 ghost use Rattle.goal_rows.specs.declared.goals.Goal.TheVariants.{Pair};
 
@@ -27,10 +28,11 @@ pub fn race<'a>(alloc: Global, rule: Rule, roll: &'a Roll) -> Result<Race<'a>, M
     requires pairs { (o : AnOutcome) → IsReported rule roll.now o → IsDecidedByPairs rule o }
     ensures rule { IfOk result (λ race. race.rule ≡ rule) }
     ensures roll { IfOk result (λ race. race.roll.now ≡ roll.now) }
-    ensures race { IfOk result (λ race. IsRace rule roll.now race.kinds race.reported race.roots) }
+    ensures roots { IfOk result (λ race. race.roots ≡ root_goals rule roll.now.c race.reported) }
+    ensures race { IfOk result IsRace }
     // The outcome turns exactly where all rows of some complete goal hold after the replacements.
     ensures turning { IfOk result (λ race. (changes : List (ℕ × List ℕ)) → Turns rule roll.now changes
-        ↔ ((goal : AGoal) × IsComplete race.roots goal × Holds (rows_of rule roll.now.c race.reported goal) (after roll.now changes).ballots)) }
+        ↔ ((goal : AGoal) × IsComplete (election_of race) goal × Holds (election_of race) goal (after roll.now changes).ballots)) }
 {
     let kinds = kinds(alloc, roll)?;
     let reported = reported(alloc, rule, roll)?;
@@ -58,9 +60,8 @@ fn roots_of(alloc: Global, rule: Rule, c: u8, reported: &Outcome) -> Result<Goal
 }
 
 /// The pairs of each other candidate with this one.
-#[tactic(auto, using(crate::proofs::Roots::one_more, crate::proofs::Roots::none_more))]
 fn others(alloc: Global, c: u8, x: Cand) -> Result<GoalList, Memory>
-    ensures { IfOk result (λ roots. roots ≡ pairs_below c x) }
+    ensures { IfOk result (λ roots. roots ≡ map (λ j. Pair j x) (those c (λ j. not (j == x)))) }
 {
     let mut roots = GoalList::new(alloc);
     for j in 0..c {
@@ -72,9 +73,8 @@ fn others(alloc: Global, c: u8, x: Cand) -> Result<GoalList, Memory>
 }
 
 /// The pairs of each candidate with each other one that has a seat.
-#[tactic(auto, using(crate::proofs::SeatRoots::seat_pairs_more))]
 fn seated(alloc: Global, c: u8, shares: &[u16]) -> Result<GoalList, Memory>
-    ensures { IfOk result (λ roots. roots ≡ seat_pairs c c shares.now) }
+    ensures { IfOk result (λ roots. roots ≡ flat_map (λ g. map (λ l. Pair g l) (those c (seated_test shares.now g))) (range_with_len 0 c)) }
 {
     let mut roots = GoalList::new(alloc);
     for g in 0..c {
@@ -84,9 +84,8 @@ fn seated(alloc: Global, c: u8, shares: &[u16]) -> Result<GoalList, Memory>
 }
 
 /// Adds the pairs of this candidate with each other one that has a seat.
-#[tactic(auto, using(crate::proofs::SeatRoots::seated_more, crate::proofs::SeatRoots::seated_no_more))]
 fn add_seated(roots: &mut GoalList, c: u8, g: Cand, shares: &[u16]) -> Result<(), Memory>
-    ensures { OnOk result (roots.new ≡ roots.old ++ seated_below c g shares.now) }
+    ensures { OnOk result (roots.new ≡ roots.old ++ map (λ l. Pair g l) (those c (seated_test shares.now g))) }
 {
     for l in 0..c {
         if is_seated(g, l, shares) {
@@ -98,14 +97,14 @@ fn add_seated(roots: &mut GoalList, c: u8, g: Cand, shares: &[u16]) -> Result<()
 
 /// Whether l is another candidate than g and has a seat.
 fn is_seated(g: Cand, l: Cand, shares: &[u16]) -> bool
-    ensures { result ≡ (not (l == g) && nat_lt 0 (slice_index shares.now l)) }
+    ensures { result ≡ seated_test shares.now g l }
 {
     l != g && seats_at(shares, l) > 0
 }
 
 /// The goals that a goal is split into; none where it has no cover.
 pub fn cover(alloc: Global, race: &Race<'_>, goal: &Goal) -> Result<Option<GoalList>, Memory>
-    ensures { IfOk result (λ kids. kids ≡ cover_of race.now.roots goal.now) }
+    ensures { IfOk result (λ kids. kids ≡ cover_of (election_of race.now) goal.now) }
 {
     let _ = alloc;
     match goal {
@@ -116,7 +115,7 @@ pub fn cover(alloc: Global, race: &Race<'_>, goal: &Goal) -> Result<Option<GoalL
 
 /// How many goals a goal is split into; none where it has no cover. It takes no memory.
 pub fn kid_count(race: &Race<'_>, goal: &Goal) -> Option<usize>
-    ensures { result ≡ option_map length (cover_of race.now.roots goal.now) }
+    ensures { result ≡ option_map length (cover_of (election_of race.now) goal.now) }
 {
     match goal {
         Goal::Root => Some(race.roots.len()),
@@ -124,9 +123,20 @@ pub fn kid_count(race: &Race<'_>, goal: &Goal) -> Option<usize>
     }
 }
 
+/// How many rows a goal has.
+pub fn row_count(race: &Race<'_>, goal: &Goal) -> usize
+    ensures { result ≡ length (rows_of (election_of race.now) goal.now) }
+{
+    let _ = race;
+    match goal {
+        Goal::Root => 0,
+        Goal::Pair(_, _) => 1,
+    }
+}
+
 /// Whether the outcome turns where all rows of the goal hold.
 pub fn is_complete(race: &Race<'_>, goal: &Goal) -> bool
-    ensures { IsTrue result ↔ IsComplete race.now.roots goal.now }
+    ensures { IsTrue result ↔ IsComplete (election_of race.now) goal.now }
 {
     match goal {
         Goal::Root => false,

@@ -8,5 +8,5 @@ returns-clause-values c =
     let one : FitsSigned w64 c.weight.result = search rules in
     let two : FitsSigned w64 c.value.result = search rules in
     let sums : c.in_ok-sums.sums ≡ c.value.result ∷ [] = simp to_z-of_z at c.in_ok-sums.ensures in
-    simp to_z-of_z (rw sums (pair_values c.args.race.now.rule c.args.race.now.roll.now c.args.race.now.kinds c.args.race.now.reported c.args.gainer c.args.loser c.in_ok-classes.classes
-    c.value.result c.weight.result c.len-ballots.result c.requires.race.kinds_are c.in_ok-classes.ensures c.value.ensures c.weight.ensures c.len-ballots.ensures.value))
+    simp to_z-of_z (rw sums (pair_values c.args.race.now c.args.gainer c.args.loser c.in_ok-classes.classes
+    c.value.result c.weight.result c.len-ballots.result c.requires.race c.in_ok-classes.ensures c.value.ensures c.weight.ensures c.len-ballots.ensures.value))

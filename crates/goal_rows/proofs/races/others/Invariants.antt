@@ -1,6 +1,8 @@
-use Rattle.std.proofs.Common.{◌≡◌}
-use Rattle.goal_rows.specs.Goals.{pairs_below}
+use Rattle.std.proofs.Common.{◌≡◌, map}
+use Rattle.std.specs.Prelude.{◌==◌, not}
+use Rattle.goal_rows.specs.Goals.{those}
+use Rattle.goal_rows.specs.declared.goals.Goal.TheVariants.{Pair}
 use Rattle.goal_rows.proofs.races.others.Given as goal
 
 abbrev pub invariant-loop-j : goal.invariant-loop-j
-invariant-loop-j l = l.roots ≡ pairs_below l.j l.x
+invariant-loop-j l = l.roots ≡ map (λ j. Pair j l.x) (those l.j (λ j. not (j == l.x)))
