@@ -1,6 +1,7 @@
-pub mod Greedy
-pub mod Sorting
 pub mod Sound
-pub mod Gains
+pub mod PairPoints
 pub mod Exact
 pub mod Sizes
+pub mod Sorting
+pub mod Gains
+pub mod Greedy

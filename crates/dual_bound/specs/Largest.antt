@@ -1,6 +1,7 @@
 -- The greatest sum of at most so many numbers, from numbers that are counted in classes.
 use Rattle.std.specs.Prelude.{◌≡◌, ◌⊎◌, ℕ, ◌+◌, ◌-◌, ◌*◌, ◌^◌, ◌≤◌, min, map, All, length, List, [], ◌∷◌, slice_index_or, unsigned_abs, ℤ, pos, ◌+ℤ◌, ◌-ℤ◌, ◌<ℤ◌, ◌≤ℤ◌}
 use Rattle.mov_base.specs.Sums.{add_up, most}
+use Rattle.ballot_form.specs.declared.limits.TheConstants.{MOST_BALLOTS}
 use Rattle.goal_rows.specs.declared.parts.Ground.{Ground}
 
 -- classes (a number, and how often it stands), the greatest first: what the first k numbers give
@@ -49,11 +50,11 @@ pub record IsSmallBase (base : ℤ) : Type 0 where
   pub high : base <ℤ pos (2 ^ 104)
 
 -- the sizes of what is known of a pair
-pub record IsSmallPair (node : Ground) : Type 0 where
-  pub one_sum : length node.sums ≡ 1
-  pub sum_low : (pos 0 -ℤ pos (2 ^ 40)) ≤ℤ slice_index_or node.sums 0 (pos 0)
-  pub sum_high : slice_index_or node.sums 0 (pos 0) ≤ℤ pos (2 ^ 40)
-  pub lone_low : pos 0 ≤ℤ node.lone
-  pub lone_high : node.lone ≤ℤ pos 1024
-  pub counted : add_up (λ c. c.1) node.classes ≡ node.ballots
-  pub few : node.ballots ≤ 1000000
+pub record IsSmallPair (start : Ground) : Type 0 where
+  pub one_sum : length start.sums ≡ 1
+  pub sum_low : (pos 0 -ℤ pos (2 ^ 40)) ≤ℤ slice_index_or start.sums 0 (pos 0)
+  pub sum_high : slice_index_or start.sums 0 (pos 0) ≤ℤ pos (2 ^ 40)
+  pub lone_low : pos 0 ≤ℤ start.lone
+  pub lone_high : start.lone ≤ℤ pos 1024
+  pub counted : add_up (λ c. c.1) start.classes ≡ start.ballots
+  pub few : start.ballots ≤ MOST_BALLOTS

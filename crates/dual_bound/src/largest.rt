@@ -4,6 +4,7 @@ ghost use Rattle.mov_base.specs.Sums.{add_up, most};
 ghost use Rattle.signature_class.specs.Classes.{IsGrouped};
 ghost use Rattle.dual_bound.specs.Largest.{greedy, AreSmall, CutsAt, IsDescending, IsGreatestCut, IsSmallBase};
 
+use ballot_form::MOST_BALLOTS;
 use std::cmp::Reverse;
 
 /// Puts the classes with the greatest gains first.
@@ -61,7 +62,7 @@ pub(crate) fn greatest_cut(base: i128, classes: &[(u128, u32)], ballots: u32) ->
     requires small { AreSmall classes.now }
     requires order { IsDescending classes.now }
     requires ballots { ballots ≡ add_up (λ p. p.1) classes.now }
-    requires few { ballots ≤ 1000000 }
+    requires few { ballots ≤ MOST_BALLOTS }
     requires base { IsSmallBase base }
     ensures value { (gains : List ℕ) → IsGrouped gains classes.now → IsGreatestCut base gains (ballots + 1) result }
 {

@@ -4,8 +4,8 @@
 //! the values before any replacement, times these numbers, and the largest gains of so many ballots together stay below 0. The
 //! definition (`specs/CutTest.antt`) takes the gains ballot by ballot, each over all valid new ballots; `cuts` is exactly this test, and
 //! `bound_of` the greatest number at which it passes. They work over the classes of ballots, in a `Scratch` that is made before, and
-//! take no memory. Where the test passes, no shorter list of replacements meets the node. So far a node is the root or a pair, under
-//! plurality; these have no features, and so no limits. The crate stands on `goal_rows`, and on `row_program` for limits.
+//! take no memory. Where the test passes, no shorter list of replacements meets the node. A node is the root or a pair, under any rule
+//! that is decided by pairs; these have no features, and so no limits. The crate stands on `goal_rows`, and on `row_program` for limits.
 #![tactic(auto)]
 
 mod largest;
@@ -15,11 +15,8 @@ mod pairs;
 mod scratch;
 
 pub use laws::{
-    a_bound_is_one_number, a_cut_holds_below, a_cut_is_sound, a_node_has_few_classes,
-    a_reached_goal_is_of_the_contest, gains_are_one_list,
+    a_bound_is_one_number, a_cut_holds_below, a_cut_is_sound, a_ground_has_few_classes,
+    gains_are_one_list,
 };
 pub use nodes::{bound_of, cuts};
-pub use scratch::Scratch;
-
-#[cfg(test)]
-mod tests;
+pub use scratch::{MOST_CLASSES, Scratch};

@@ -3,14 +3,16 @@ ghost use Rattle.std.specs.Prelude.{◌≡◌, ◌≤◌, ◌+◌, ◌<◌, ◌^
 ghost use Rattle.signature_class.specs.Classes.{IsGrouped};
 ghost use Rattle.dual_bound.specs.Largest.{CutsAt, IsGreatestCut, IsSmallPair, gain_under};
 
-use crate::pairs::{bound_in, cuts_in};
+use crate::largest::{cuts_at, greatest_cut};
+use crate::pairs::{base, sorted_gains};
+use exact_num::WIDE;
 use goal_rows::parts::Ground;
 use mov_base::Memory;
 use std::alloc::Global;
 use std::marker::Model;
 
-/// How many classes a node has at most: with 12 candidates no more come.
-const MOST_CLASSES: usize = 4096;
+/// The most classes of a node for which there is room.
+pub const MOST_CLASSES: usize = 4_096;
 
 /// Room for the gains of so many classes; contracts see it as their number.
 #[derive(Drop)]
@@ -27,9 +29,9 @@ impl Model for Scratch {
 }
 
 impl Scratch {
-    /// Room for every node: for 4,096 classes.
+    /// Room for 4,096 classes.
     pub fn new(alloc: Global) -> Result<Scratch, Memory>
-        ensures { IfOk result (λ scratch. scratch ≡ 4096) }
+        ensures { IfOk result (λ scratch. scratch ≡ MOST_CLASSES) }
     {
         Scratch::for_classes(alloc, MOST_CLASSES)
     }
@@ -43,29 +45,32 @@ impl Scratch {
     }
 
     /// Whether the test of a pair passes at `t`.
-    pub(crate) fn cuts(&mut self, node: &Ground, multiplier: u64, t: u32) -> bool
-        requires small { IsSmallPair node.now }
-        requires multiplier { multiplier < 2 ^ 63 }
-        requires room { length node.now.classes ≤ self.old }
-        requires enough { t ≤ node.now.ballots + 1 }
-        ensures value { (keys : List ℕ) → IsGrouped keys node.now.classes
-            → (IsTrue result ↔ CutsAt (pos multiplier *ℤ slice_index_or node.now.sums 0 (pos 0)) (map (gain_under node.now.lone multiplier) keys) t) }
+    pub(crate) fn cuts(&mut self, start: &Ground, multiplier: u64, t: u32) -> bool
+        requires small { IsSmallPair start.now }
+        requires multiplier { multiplier < WIDE }
+        requires room { length start.now.classes ≤ self.old }
+        requires enough { t ≤ start.now.ballots + 1 }
+        ensures value { (keys : List ℕ) → IsGrouped keys start.now.classes → (IsTrue result
+            ↔ CutsAt (pos multiplier *ℤ slice_index_or start.now.sums 0 (pos 0)) (map (gain_under start.now.lone multiplier) keys) t) }
         ensures room { self.new ≡ self.old }
     {
-        let places = &mut self.places[..node.classes.len()];
-        cuts_in(node, multiplier, t, places)
+        let places = &mut self.places[..start.classes.len()];
+        sorted_gains(start, multiplier, places);
+        cuts_at(base(start, multiplier), places, t)
     }
 
     /// The greatest number at which the test of a pair passes.
-    pub(crate) fn bound_of(&mut self, node: &Ground, multiplier: u64) -> u32
-        requires small { IsSmallPair node.now }
-        requires multiplier { multiplier < 2 ^ 63 }
-        requires room { length node.now.classes ≤ self.old }
-        ensures value { (keys : List ℕ) → IsGrouped keys node.now.classes
-            → IsGreatestCut (pos multiplier *ℤ slice_index_or node.now.sums 0 (pos 0)) (map (gain_under node.now.lone multiplier) keys) (node.now.ballots + 1) result }
+    pub(crate) fn bound_of(&mut self, start: &Ground, multiplier: u64) -> u32
+        requires small { IsSmallPair start.now }
+        requires multiplier { multiplier < WIDE }
+        requires room { length start.now.classes ≤ self.old }
+        ensures value { (keys : List ℕ) → IsGrouped keys start.now.classes →
+            IsGreatestCut (pos multiplier *ℤ slice_index_or start.now.sums 0 (pos 0)) (map (gain_under start.now.lone multiplier) keys)
+            (start.now.ballots + 1) result }
         ensures room { self.new ≡ self.old }
     {
-        let places = &mut self.places[..node.classes.len()];
-        bound_in(node, multiplier, places)
+        let places = &mut self.places[..start.classes.len()];
+        sorted_gains(start, multiplier, places);
+        greatest_cut(base(start, multiplier), places, start.ballots)
     }
 }

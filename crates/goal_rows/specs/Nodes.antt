@@ -11,6 +11,11 @@ use Rattle.goal_rows.specs.Elections.{Election, Node}
 use Rattle.goal_rows.specs.Goals.{Holds, rows_of}
 use Rattle.goal_rows.specs.declared.goals.Goal.{Goal}
 use Rattle.goal_rows.specs.declared.goals.Goal.TheVariants.{Root, Pair}
+use Rattle.goal_rows.specs.declared.parts.Ground.{Ground}
+
+-- a ground's goal with these limits
+abbrev pub node_of : Ground → List Limit → Node
+node_of start limits = record { goal = start.goal; limits = limits }
 
 -- the feature belongs to the goal. The root and the pairs have none
 abbrev pub IsFeatureOf : Election → Goal → Feature → Type 0

@@ -4,7 +4,7 @@ use Rattle.std.specs.Str.{bytes_eq}
 use Rattle.mov_base.specs.Sums.{sum_z}
 use Rattle.signature_class.specs.Classes.{classes_of}
 use Rattle.goal_rows.specs.Elections.{Election}
-use Rattle.goal_rows.specs.Goals.{IsElection, gainer_points, loser_points, pair_weight, rows_of}
+use Rattle.goal_rows.specs.Goals.{IsElection, IsReached, gainer_points, loser_points, pair_weight, rows_of}
 use Rattle.goal_rows.specs.declared.goals.Goal.{Goal}
 use Rattle.goal_rows.specs.declared.goals.Goal.TheVariants.{Root, Pair}
 use Rattle.goal_rows.specs.declared.parts.Ground.{Ground}
@@ -40,6 +40,16 @@ pub record IsGroundOf (e : Election) (start : Ground) : Type 0 where
   pub sums : start.sums ≡ map (λ weight. sum_z weight e.poll.ballots) (rows_of e start.goal)
   pub ballots : start.ballots ≡ length e.poll.ballots
   pub lone : start.lone ≡ lone_weight e start.goal
+
+-- the ground of a goal that is reached in this election
+pub record IsGroundIn (e : Election) (start : Ground) : Type 0 where
+  pub election : IsElection e
+  pub reached : IsReached e start.goal
+  pub values : IsGroundOf e start
+
+-- the ground of a goal in some election
+abbrev pub IsSomeGround : Ground → Type 0
+IsSomeGround start = (e : Election) × IsGroundIn e start
 
 -- kinds of ballots by a key
 abbrev pub keyed : (List ℕ → ℕ) → List (List ℕ × ℕ) → List (ℕ × ℕ)
