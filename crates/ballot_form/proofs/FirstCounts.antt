@@ -1,9 +1,8 @@
 -- Counting first preferences.
-use Rattle.std.proofs.Common.{ℕ, List, [], ◌∷◌, Option, Bool, true, false, ◌≡◌, ◌<◌, ◌≤◌, ◌+◌, ◌∙◌, take, cond, length, get_or, slice_get, ap, arith, refl}
+use Rattle.std.proofs.Common.{ℕ, List, [], Option, Bool, true, false, ◌≡◌, ◌<◌, ◌≤◌, ◌+◌, take, cond, length, get_or, slice_get, ap, arith, refl}
 use Rattle.std.specs.Prelude.{IfSome}
 use Rattle.std.proofs.lemmas.List.{take_all}
 use Rattle.std.proofs.lemmas.List.Recursion.{is_count_by}
-
 use Rattle.std.proofs.lemmas.Option.{slice_get-get_or}
 use Rattle.ballot_form.proofs.Counting.{count_by_at}
 use Rattle.ballot_form.specs.Scores.{first_count, first_of, is_first, is_some_of, plurality_points, score_of}

@@ -1,5 +1,5 @@
 -- The test over classes is the test of the definition, over ballots one by one and all valid new ballots.
-use Rattle.std.proofs.Common.{◌≡◌, ◌≢◌, ◌↔◌, ◌⊎◌, ℕ, zero, suc, ◌+◌, ◌-◌, ◌*◌, ◌<◌, ◌≤◌, List, [], ◌∷◌, Bool, map, min, length, get_or, sym, refl, ap, subst, ◌∙◌, inl, inr, arith, All}
+use Rattle.std.proofs.Common.{◌≡◌, ◌↔◌, ℕ, zero, suc, ◌+◌, ◌-◌, ◌*◌, ◌<◌, ◌≤◌, List, [], ◌∷◌, Bool, map, min, length, get_or, sym, refl, ap, subst, ◌∙◌, inl, inr, arith, All}
 use Rattle.std.specs.Prelude.{ℤ, pos, ◌+ℤ◌, ◌-ℤ◌, ◌*ℤ◌, ◌≤ℤ◌, IsTrue, nat_eq}
 use Rattle.std.proofs.Math.IntN.{negsuc}
 use Rattle.std.proofs.lemmas.Int.{ints}
@@ -7,7 +7,7 @@ use Rattle.std.proofs.lemmas.Bool.Decides.{Decides-eqb}
 use Rattle.mov_base.specs.Sums.{add_up, most, sum_z}
 use Rattle.mov_base.proofs.Signed.{distrib, sum_z-difference}
 use Rattle.mov_base.proofs.Sums.{add_up-le}
-use Rattle.ballot_form.specs.Ballots.{IsPoll, IsValidBallot, Poll}
+use Rattle.ballot_form.specs.Ballots.{IsValidBallot, Poll}
 use Rattle.row_program.specs.declared.Limit.{Limit}
 use Rattle.signature_class.specs.Classes.{IsGrouped, classes_of}
 use Rattle.signature_class.proofs.Counts.{keys_are_classes, sum-times_one}

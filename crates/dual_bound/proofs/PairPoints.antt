@@ -1,5 +1,5 @@
 -- What ballots count for the gainer and the loser of a pair, under each rule: how much at most, and what the gainer alone counts.
-use Rattle.std.proofs.Common.{◌≡◌, ◌≢◌, ℕ, zero, suc, ◌+◌, ◌-◌, ◌<◌, ◌≤◌, ◌==◌, ◌∙◌, List, [], ◌∷◌, Bool, true, false, cond, map, length, get_or, Option, Some, None, refl, ap, arith}
+use Rattle.std.proofs.Common.{◌≡◌, ◌≢◌, ℕ, zero, suc, ◌+◌, ◌-◌, ◌≤◌, ◌==◌, List, [], ◌∷◌, Bool, true, false, cond, map, length, Option, Some, None, refl, arith}
 use Rattle.std.specs.Prelude.{option_map, slice_index}
 use Rattle.std.specs.List.{range_with_len}
 use Rattle.std.proofs.lemmas.Bool.Decides.{nat_tests}
@@ -7,7 +7,7 @@ use Rattle.std.proofs.lemmas.List.FromFn.{length-range_with_len}
 use Rattle.std.proofs.lemmas.List.Sums.{count_by-le-length}
 use Rattle.ballot_form.specs.Ballots.{IsPoll, Poll}
 use Rattle.ballot_form.specs.Rules.{IsRule}
-use Rattle.ballot_form.specs.Scores.{borda_points, is_first, place_of, plurality_points, points_at}
+use Rattle.ballot_form.specs.Scores.{borda_points, is_first, place_of, points_at}
 use Rattle.ballot_form.specs.declared.limits.TheConstants.{MOST_SEATS}
 use Rattle.ballot_form.specs.declared.outcome.Outcome.{Outcome}
 use Rattle.ballot_form.specs.declared.outcome.Outcome.TheVariants.{Winner, NoWinner, Seats}
@@ -17,7 +17,7 @@ use Rattle.condorcet_count.specs.Preferences.{prefers}
 use Rattle.dhondt_seats.specs.Seats.{before, reported_seats, seats_of, votes_of}
 use Rattle.std.specs.Prelude.{nat_lt}
 use Rattle.goal_rows.specs.Elections.{Election}
-use Rattle.goal_rows.specs.Goals.{HasPairs, IsElection, IsRootOf, gainer_points, loser_points, seats_in}
+use Rattle.goal_rows.specs.Goals.{HasPairs, IsElection, IsRootOf, gainer_points, loser_points}
 use Rattle.goal_rows.specs.Outcomes.{IsReported}
 use Rattle.goal_rows.specs.declared.goals.Goal.{Goal}
 use Rattle.goal_rows.specs.declared.goals.Goal.TheVariants.{Pair}

@@ -1,5 +1,5 @@
 -- The root goals: what it takes to be among them, and that they are goals that an election may have below the root.
-use Rattle.std.proofs.Common.{ℕ, List, [], ◌∷◌, Bool, true, ◌≡◌, ◌≢◌, ◌<◌, ◌≤◌, ◌+◌, ◌∙◌, length, get_or, map, ap, sym, refl, subst, arith, All}
+use Rattle.std.proofs.Common.{ℕ, List, [], true, ◌≡◌, ◌≢◌, ◌<◌, ◌≤◌, ◌∙◌, length, get_or, map, ap, sym, subst, arith, All}
 use Rattle.std.specs.Prelude.{◌==◌, not, Contains, AllPairs, slice_index}
 use Rattle.std.specs.List.{flat_map, range_with_len}
 use Rattle.std.proofs.lemmas.Bool.Decides.{nat_tests}

@@ -1,6 +1,6 @@
 -- A node is a goal with a list of limits on the replacements. Each row of the goal and each limit has a value before any replacement,
 -- and each replacement changes it by so much.
-use Rattle.std.specs.Prelude.{◌≡◌, ℕ, ◌+◌, ◌≤◌, ◌==◌, List, [], ◌∷◌, ◌++◌, All, if◌then◌else◌, length, map, ℤ, pos, ◌-ℤ◌, ◌≤ℤ◌}
+use Rattle.std.specs.Prelude.{ℕ, ◌+◌, ◌≤◌, ◌==◌, List, [], ◌∷◌, ◌++◌, All, if◌then◌else◌, length, map, ℤ, pos, ◌-ℤ◌, ◌≤ℤ◌}
 use Rattle.mov_base.specs.Sums.{add_up, sum_z}
 use Rattle.ballot_form.specs.Alterations.{after}
 use Rattle.ballot_form.specs.declared.limits.TheConstants.{MOST_BALLOTS}
@@ -16,6 +16,14 @@ use Rattle.goal_rows.specs.declared.parts.Ground.{Ground}
 -- a ground's goal with these limits
 abbrev pub node_of : Ground → List Limit → Node
 node_of start limits = record { goal = start.goal; limits = limits }
+
+-- a goal without limits
+abbrev pub without_limits : Goal → Node
+without_limits goal = record { goal = goal; limits = [] }
+
+-- a node with one limit more, at the end
+abbrev pub with_limit : Node → Limit → Node
+with_limit node limit = record { goal = node.goal; limits = node.limits ++ limit ∷ [] }
 
 -- the feature belongs to the goal. The root and the pairs have none
 abbrev pub IsFeatureOf : Election → Goal → Feature → Type 0

@@ -1,7 +1,5 @@
 -- One more ballot, and how great scores get.
-use Rattle.std.proofs.Common.{ℕ, List, [], get_or, Option, Some, None, ◌≡◌, ◌<◌, ◌≤◌, ◌+◌, ◌∙◌, sym, take, cond, length, slice_get, arith}
-use Rattle.std.specs.Prelude.{IfSome}
-use Rattle.std.proofs.lemmas.Option.{slice_get-get_or}
+use Rattle.std.proofs.Common.{ℕ, List, Option, Some, None, ◌≡◌, ◌≤◌, ◌+◌, ◌∙◌, sym, take, slice_get, arith}
 use Rattle.mov_base.proofs.Sums.{add_up_more}
 use Rattle.ballot_form.proofs.FirstCounts.{plurality_score}
 use Rattle.ballot_form.specs.Scores.{borda_points, first_count, place_of, plurality_points, points_at, score_of}
