@@ -2,40 +2,66 @@
 use Rattle.std.proofs.Common.{ℕ, zero, suc, List, [], ◌∷◌, Option, Some, None, All, Bool, true, false, IsTrue, ◌≡◌, ◌≢◌, ◌<◌, ◌≤◌, ◌+◌, ◌∙◌, ◌↔◌, length, cond, refl, ap, sym, subst, inl, inr, arith}
 use Rattle.std.specs.Prelude.{◌==◌, Err}
 use Rattle.std.proofs.lemmas.Bool.{false≢true}
-use Rattle.std.proofs.lemmas.List.Elements.{All-head, All-tail}
 use Rattle.ballot_form.specs.Alterations.{after, after_from}
 use Rattle.ballot_form.specs.Ballots.{Poll}
+use Rattle.ballot_form.specs.Rules.{IsRule}
+use Rattle.ballot_form.specs.declared.limits.TheConstants.{MOST_BALLOTS}
 use Rattle.ballot_form.specs.declared.outcome.Outcome.{Outcome}
 use Rattle.ballot_form.specs.declared.rule.Rule.{Rule}
-use Rattle.alteration_model.specs.Faults.{Gives, IsFirstFault, IsFirstFaultFrom, IsPutFault}
+use Rattle.ballot_form.specs.declared.rule.Rule.TheVariants.{Plurality, Borda, Condorcet, Dhondt, Irv}
+use Rattle.alteration_model.specs.Faults.{IsFirstFault, IsFirstFaultFrom, IsPutFault}
+use Rattle.alteration_model.specs.Faults.{Judges as Judged}
 use Rattle.alteration_model.specs.declared.faults.AlterFault.{AlterFault}
 use Rattle.alteration_model.specs.declared.faults.AlterFault.TheVariants.{NumberRange, NotAscending, BadBallot, Memory}
 use Rattle.alteration_model.specs.declared.puts.Put.{Put}
 use Rattle.bound_tree.specs.Nodes.{size}
 use Rattle.bound_tree.specs.Plain.{Plain}
-use Rattle.goal_rows.specs.Goals.{root_goals}
+use Rattle.goal_rows.specs.Elections.{Election, Node}
+use Rattle.goal_rows.specs.Goals.{IsDecidedByPairs, root_goals}
 use Rattle.goal_rows.specs.Outcomes.{IsReported}
-use Rattle.goal_rows.specs.declared.goals.Goal.{Goal}
+use Rattle.goal_rows.specs.Races.{election_of}
+use Rattle.goal_rows.specs.declared.parts.Race.{Race}
 use Rattle.goal_rows.proofs.Reporting.{one_reported}
 use Rattle.cert_text.specs.CertText.{BodyFits, ClaimFits, IsPrintable}
 use Rattle.cert_text.specs.declared.cert.Cert.{Cert}
 use Rattle.cert_text.specs.declared.cert.Claim.{Claim}
 use Rattle.cert_text.specs.declared.cert.Claim.TheVariants.{Margin, Fixed, Bounds}
 use Rattle.cert_text.specs.declared.cert.GoalText.{GoalText}
-use Rattle.margin_check.specs.Proving.{IsShaped, Passes}
-use Rattle.margin_check.specs.Validity.{cert_visits, level_of}
-use Rattle.margin_check.specs.Verdicts.{FirstParts, IsFirstWithout, Judges, place_of, tree_line}
+use Rattle.margin_check.specs.Validity.{election_by}
+use Rattle.margin_check.specs.Verdicts.{IsFirstWithout, IsJudged, IsRefusal, Judges, place_of}
 use Rattle.margin_check.specs.Visits.{Visit, visits}
-use Rattle.margin_check.specs.Walks.{Answers, EndsAt, IsWithin}
-use Rattle.margin_check.specs.declared.verdict.Reason.TheVariants as reasons
+use Rattle.margin_check.specs.Walks.{EndsAt, IsWithin}
+use Rattle.margin_check.specs.declared.verdict.Reason.{Reason}
 use Rattle.margin_check.specs.declared.verdict.Verdict.{Verdict}
 use Rattle.margin_check.specs.declared.verdict.Verdict.TheVariants.{No}
-use Rattle.margin_check.specs.declared.walk.Asked.TheVariants.{Cuts}
 use Rattle.margin_check.specs.declared.walk.End.{End}
 use Rattle.margin_check.specs.declared.walk.End.TheVariants.{Through, Stopped}
 use Rattle.margin_check.proofs.Nodes.{visits_few}
 
--- ---- the outcome and the ballots
+-- ---- the rule, the outcome and the ballots
+
+pub judged_rule : (rule : Rule) → IsJudged rule → IsRule rule
+judged_rule Plurality is = tt
+judged_rule Borda is = absurd is
+judged_rule Condorcet is = absurd is
+judged_rule (Dhondt seats) is = absurd is
+judged_rule Irv is = absurd is
+
+pub judged_pairs : (rule : Rule) (o : Outcome) → IsJudged rule → IsDecidedByPairs rule o
+judged_pairs Plurality o is = tt
+judged_pairs Borda o is = absurd is
+judged_pairs Condorcet o is = absurd is
+judged_pairs (Dhondt seats) o is = absurd is
+judged_pairs Irv o is = absurd is
+
+pub same_election : (race : Race) (p : Poll) (cert : Cert) → race.rule ≡ cert.rule → race.roll.now ≡ p → race.reported ≡ cert.reported
+    → race.roots ≡ root_goals cert.rule p.c race.reported → election_of race ≡ election_by p cert
+same_election race p cert rule poll reported roots =
+    let goals : race.roots ≡ root_goals cert.rule p.c cert.reported = roots ∙ ap (λ o. root_goals cert.rule p.c o) reported in
+    rw (rule, poll, reported, goals) refl
+
+pub refuse : (p : Poll) (cert : Cert) (reason : Reason) (line : ℕ) (verdict : Verdict) → verdict ≡ No reason line → IsRefusal p cert reason line → Judges p cert verdict
+refuse p cert reason line verdict e is = subst (λ v. Judges p cert v) (sym e) is
 
 pub other_outcome : (rule : Rule) (p : Poll) (reported other : Outcome) (b : Bool) → IsReported rule p reported → (IsTrue b ↔ (reported ≡ other)) → b ≡ false → IsReported rule p other → ⊥
 other_outcome rule p reported other b is test wrong also =
@@ -57,7 +83,7 @@ as_many_after p altered changes is = ap (λ (q : Poll). length q.ballots) is ∙
 
 -- ---- a bad replacement
 
-pub first_fault : (p : Poll) (puts : List Put) (fault : AlterFault) → Gives p puts (Err fault) → fault ≢ Memory → IsFirstFault p puts (Some fault)
+pub first_fault : (p : Poll) (puts : List Put) (fault : AlterFault) → Judged p puts (Err fault) → fault ≢ Memory → IsFirstFault p puts (Some fault)
 first_fault p puts (NumberRange i) is other = is
 first_fault p puts (NotAscending i) is other = is
 first_fault p puts (BadBallot i) is other = is
@@ -74,28 +100,21 @@ place_from p at last [] fault is = absurd is
 place_from p at last (put ∷ puts) fault (inl here) = omega (arith, place_at p at last put fault here)
 place_from p at last (put ∷ puts) fault (inr later) = omega (arith, place_from p (at + 1) put.number puts fault later.1)
 
-puts_of_body : (c : ℕ) (claim : Claim) (goal : Option GoalText) (puts : List Put) → ClaimFits claim → BodyFits c claim goal puts → length puts ≤ 1000000
+puts_of_body : (c : ℕ) (claim : Claim) (goal : Option GoalText) (puts : List Put) → ClaimFits claim → BodyFits c claim goal puts → length puts ≤ MOST_BALLOTS
 puts_of_body c (Margin k) None puts fits body = absurd body
 puts_of_body c (Margin k) (Some goal) puts fits body = omega (arith, fits, body.1)
 puts_of_body c Fixed goal puts fits body = omega (arith, ap length body.1)
 puts_of_body c (Bounds low up stop) None puts fits body = absurd body
 puts_of_body c (Bounds low up stop) (Some goal) puts fits body = omega (arith, fits.1, body.1)
 
-pub few_puts : (cert : Cert) → IsPrintable cert → length cert.puts ≤ 1000000
+pub few_puts : (cert : Cert) → IsPrintable cert → length cert.puts ≤ MOST_BALLOTS
 few_puts cert printable = puts_of_body cert.c cert.claim cert.goal cert.puts printable.claim printable.body
 
-pub few_places : (p : Poll) (cert : Cert) (puts : List Put) (fault : AlterFault) → IsPrintable cert → puts ≡ cert.puts → Gives p puts (Err fault) → place_of fault ≤ 1000000
+pub few_places : (p : Poll) (cert : Cert) (puts : List Put) (fault : AlterFault) → IsPrintable cert → puts ≡ cert.puts → Judged p puts (Err fault) → place_of fault ≤ MOST_BALLOTS
 few_places p cert puts (NumberRange i) printable same is = omega (arith, few_puts cert printable, ap length same, place_from p 0 0 puts (NumberRange i) is)
 few_places p cert puts (NotAscending i) printable same is = omega (arith, few_puts cert printable, ap length same, place_from p 0 0 puts (NotAscending i) is)
 few_places p cert puts (BadBallot i) printable same is = omega (arith, few_puts cert printable, ap length same, place_from p 0 0 puts (BadBallot i) is)
 few_places p cert puts Memory printable same is = omega arith
-
-pub refuse_puts : (p : Poll) (cert : Cert) (puts : List Put) (fault : AlterFault) (verdict : Verdict) → FirstParts 3 p cert → puts ≡ cert.puts → Gives p puts (Err fault) → fault ≢ Memory
-    → verdict ≡ No reasons.BadAlteration (7 + place_of fault) → Judges p cert verdict
-refuse_puts p cert puts fault verdict before same is other e = subst (λ v. Judges p cert v) (sym e) (record {
-  before = before;
-  fails = (fault, subst (λ ps. IsFirstFault p ps (Some fault)) same (first_fault p puts fault is other), refl);
-})
 
 -- ---- the tree
 
@@ -104,27 +123,8 @@ first_within P [] place is = absurd is
 first_within P (x ∷ xs) zero is = omega arith
 first_within P (x ∷ xs) (suc place) is = omega (arith, first_within P xs place is.1)
 
-pub stopped_few : (P : Visit → Type 0) (roots : List Goal) (goal : Goal) (tree : Plain) (end : End) → size tree ≤ 100000 → EndsAt P 0 (visits roots goal [] tree) end → IsWithin 100000 end
-stopped_few P roots goal tree (Through next) few is = tt
-stopped_few P roots goal tree (Stopped at) few is = omega (arith, few, is.2, visits_few roots goal [] tree, first_within P (visits roots goal [] tree) is.0 is.1)
+pub stopped_few : (P : Visit → Type 0) (e : Election) (node : Node) (tree : Plain) (end : End) → size tree ≤ 100000 → EndsAt P 0 (visits e node tree) end
+    → IsWithin 100000 end
+stopped_few P e node tree (Through next) few is = tt
+stopped_few P e node tree (Stopped at) few is = omega (arith, few, is.2, visits_few e node tree, first_within P (visits e node tree) is.0 is.1)
 
-second_fails : {X : Type 0} (P Q : X → Type 0) (xs : List X) (place : ℕ) → All P xs → IsFirstWithout (λ x. P x × Q x) xs place → IsFirstWithout Q xs place
-second_fails P Q [] place all is = absurd is
-second_fails P Q (x ∷ xs) zero all is = λ h. is (All-head P x xs all, h)
-second_fails P Q (x ∷ xs) (suc place) all is = (is.0.1, second_fails P Q xs place (All-tail P x xs all) is.1)
-
-pub refuse_cut : (p : Poll) (cert : Cert) (t at line : ℕ) (end : End) (verdict : Verdict) → FirstParts 6 p cert → t ≡ level_of (length p.ballots) cert.claim → end ≡ Stopped at
-    → EndsAt (Answers cert.rule p cert.reported (root_goals cert.rule p.c cert.reported) (Cuts t)) 0 (cert_visits p cert) end
-    → line ≡ tree_line (length cert.puts) cert.claim → verdict ≡ No reasons.CutFails (line + at) → Judges p cert verdict
-refuse_cut p cert t at line end verdict before level is ends line_is e =
-    let stopped : EndsAt (Answers cert.rule p cert.reported (root_goals cert.rule p.c cert.reported) (Cuts t)) 0 (cert_visits p cert) (Stopped at) =
-    subst (λ x. EndsAt (Answers cert.rule p cert.reported (root_goals cert.rule p.c cert.reported) (Cuts t)) 0 (cert_visits p cert) x) is ends in
-    let fails = second_fails (IsShaped cert.rule p.c cert.reported (root_goals cert.rule p.c cert.reported)) (Passes cert.rule p cert.reported t) (cert_visits p cert) stopped.0 before.1 stopped.1 in
-    subst (λ v. Judges p cert v) (sym e) (record {
-      before = before;
-      fails = (
-        stopped.0,
-        subst (λ n. IsFirstWithout (Passes cert.rule p cert.reported n) (cert_visits p cert) stopped.0) level fails,
-        omega (arith, line_is, stopped.2),
-      );
-    })

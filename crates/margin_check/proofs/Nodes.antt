@@ -1,12 +1,9 @@
 -- Nodes of a tree of the program: their shape, and the visits below them.
-use Rattle.std.proofs.Common.{ℕ, zero, suc, List, [], ◌∷◌, ◌++◌, Some, None, All, Bool, IsTrue, ◌≡◌, ◌<◌, ◌≤◌, ◌+◌, ◌∙◌, ◌↔◌, length, map, take, drop, get_or, length-append, refl, ap, sym, subst, arith}
+use Rattle.std.proofs.Common.{ℕ, zero, suc, List, [], ◌∷◌, ◌++◌, Some, None, All, Bool, true, false, IsTrue, ◌≡◌, ◌<◌, ◌≤◌, ◌+◌, ◌∙◌, ◌↔◌, length, map, take, drop, get_or, length-append, refl, ap, sym, subst, inr, arith}
 use Rattle.std.specs.Prelude.{Contains, IfOk, Result, Ok, Err, option_map, sum_by}
 use Rattle.std.proofs.lemmas.List.{drop_all, drop_more}
 use Rattle.std.proofs.lemmas.List.Elements.{All-append, All-contains_itself, All-cons, All-head, All-nil, All-tail}
 use Rattle.std.proofs.lemmas.Option.{slice_get_read}
-use Rattle.ballot_form.specs.Ballots.{Poll}
-use Rattle.ballot_form.specs.declared.outcome.Outcome.{Outcome}
-use Rattle.ballot_form.specs.declared.rule.Rule.{Rule}
 use Rattle.row_program.specs.declared.Feature.{Feature}
 use Rattle.row_program.specs.declared.Limit.{Limit}
 use Rattle.bound_tree.specs.declared.tree.Tree.{Tree}
@@ -16,14 +13,16 @@ use Rattle.bound_tree.specs.Nodes.{size, size_all}
 use Rattle.bound_tree.specs.Plain.{Plain, Kids, Split, Branch, Cut, kids_of, plain_of}
 use Rattle.bound_tree.specs.Plain as tree
 use Rattle.bound_tree.proofs.Shapes.{plain_Split, plain_Branch, plain_Cut, size_more}
-use Rattle.goal_rows.specs.Goals.{IsReached, cover_of, rows_of}
+use Rattle.goal_rows.specs.Elections.{Election, Node}
+use Rattle.goal_rows.specs.Goals.{IsReached, cover_of}
+use Rattle.goal_rows.specs.Nodes.{IsFeatureOf, with_limit, without_limits}
 use Rattle.goal_rows.specs.declared.goals.Goal.{Goal}
 use Rattle.goal_rows.specs.declared.goals.Goal.TheVariants.{Root, Pair}
-use Rattle.dual_bound.specs.Nodes.{IsFeatureOf}
-use Rattle.margin_check.specs.Proving.{IsShapedAt}
+use Rattle.goal_rows.proofs.Ways.{reached_exactly}
+use Rattle.margin_check.specs.Proving.{IsShaped, number_count}
 use Rattle.margin_check.specs.Verdicts.{IsFirstWithout}
-use Rattle.margin_check.specs.Visits.{Visit, high_limit, kid_goals, low_limit, visits, visits_among}
-use Rattle.margin_check.specs.Walks.{Answers, AnswersAt, EndsAt}
+use Rattle.margin_check.specs.Visits.{Visit, high_limit, kid_goals, low_limit, visit_of, visits, visits_among}
+use Rattle.margin_check.specs.Walks.{EndsAt, Gives, IsKnown}
 use Rattle.margin_check.specs.declared.walk.Asked.{Asked}
 use Rattle.margin_check.specs.declared.walk.Asked.TheVariants.{Shape, Cuts}
 use Rattle.margin_check.specs.declared.walk.End.{End}
@@ -35,33 +34,27 @@ pub kids_counted : (kids : List Tree) → kid_count (kids_of (map plain_of kids)
 kids_counted [] = refl
 kids_counted (kid ∷ kids) = ap suc (kids_counted kids)
 
-pub shaped_Split : (rule : Rule) (c : ℕ) (reported : Outcome) (roots : List Goal) (goal : Goal) (tree : Tree) (kids : List Tree) → tree ≡ program.Split kids
-    → IsShapedAt rule c reported roots goal [] (plain_of tree) ↔ (option_map length (cover_of roots goal) ≡ Some (length kids))
-shaped_Split rule c reported roots goal tree kids is =
+pub no_feature : (e : Election) (goal : Goal) (feature : Feature) → IsFeatureOf e goal feature → ⊥
+no_feature e Root feature h = h
+no_feature e (Pair g l) feature h = h
+
+pub shaped_Split : (e : Election) (node : Node) (tree : Tree) (kids : List Tree) → tree ≡ program.Split kids
+    → IsShaped e node (plain_of tree) ↔ ((node.limits ≡ []) × (option_map length (cover_of e node.goal) ≡ Some (length kids)))
+shaped_Split e node tree kids is =
     let same : plain_of tree ≡ Split (kids_of (map plain_of kids)) = ap plain_of is ∙ plain_Split kids in
-    rw same (rw kids_counted (λ h. h.1, λ h. (refl, h)))
+    rw same (rw kids_counted (λ h. h, λ h. h))
 
-pub shaped_by_count : (rule : Rule) (c : ℕ) (reported : Outcome) (roots : List Goal) (goal : Goal) (tree : Tree) (kids : List Tree) (count : ℕ) (b : Bool) → tree ≡ program.Split kids → count ≡ length kids
-    → (IsTrue b ↔ (option_map length (cover_of roots goal) ≡ Some count)) → IsTrue b ↔ IsShapedAt rule c reported roots goal [] (plain_of tree)
-shaped_by_count rule c reported roots goal tree kids count b is many test =
-    let s = shaped_Split rule c reported roots goal tree kids is in
-    (λ h. s.1 (test.0 h ∙ ap Some many), λ h. test.1 (s.0 h ∙ ap Some (sym many)))
-
-pub shaped_Cut : (rule : Rule) (c : ℕ) (reported : Outcome) (roots : List Goal) (goal : Goal) (tree : Tree) (multipliers : List ℕ) → tree ≡ program.Cut multipliers
-    → IsShapedAt rule c reported roots goal [] (plain_of tree) ↔ (length multipliers ≡ length (rows_of rule c reported goal))
-shaped_Cut rule c reported roots goal tree multipliers is =
+pub shaped_Cut : (e : Election) (node : Node) (tree : Tree) (multipliers : List ℕ) → tree ≡ program.Cut multipliers
+    → IsShaped e node (plain_of tree) ↔ (length multipliers ≡ number_count e node)
+shaped_Cut e node tree multipliers is =
     let same : plain_of tree ≡ Cut multipliers = ap plain_of is ∙ plain_Cut multipliers in
-    rw same (λ h. omega (arith, h), λ h. omega (arith, h))
+    rw same (λ h. h, λ h. h)
 
-pub no_feature : (goal : Goal) (feature : Feature) → IsFeatureOf goal feature → ⊥
-no_feature Root feature h = h
-no_feature (Pair g l) feature h = h
-
-pub shaped_Branch : (rule : Rule) (c : ℕ) (reported : Outcome) (roots : List Goal) (goal : Goal) (tree : Tree) (feature : Feature) (value : ℕ) (low high : Tree)
-    → tree ≡ program.Branch feature value low high → IsShapedAt rule c reported roots goal [] (plain_of tree) → ⊥
-shaped_Branch rule c reported roots goal tree feature value low high is h =
+pub shaped_Branch : (e : Election) (node : Node) (tree : Tree) (feature : Feature) (value : ℕ) (low high : Tree)
+    → tree ≡ program.Branch feature value low high → IsShaped e node (plain_of tree) ↔ IsFeatureOf e node.goal feature
+shaped_Branch e node tree feature value low high is =
     let same : plain_of tree ≡ Branch feature value (plain_of low) (plain_of high) = ap plain_of is ∙ plain_Branch feature value low high in
-    no_feature goal feature (rw same at h)
+    rw same (λ h. h, λ h. h)
 
 -- ---- where walks end
 
@@ -94,135 +87,167 @@ through_both P number next xs ys (Stopped at) first second = (length xs + second
 
 -- ---- the visits of a node
 
-pub visits_first : (roots : List Goal) (goal : Goal) (limits : List Limit) (node : Plain)
-    → (rest : List Visit) × (visits roots goal limits node ≡ record { goal = goal; limits = limits; node = node } ∷ rest)
-visits_first roots goal limits (Split kids) = (visits_among roots (kid_goals (cover_of roots goal)) kids, refl)
-visits_first roots goal limits (Branch feature value low high) =
-    (visits roots goal (limits ++ low_limit feature value ∷ []) low ++ visits roots goal (limits ++ high_limit feature value ∷ []) high, refl)
-visits_first roots goal limits (Cut multipliers) = ([], refl)
+pub visits_first : (e : Election) (node : Node) (tree : Plain) → (rest : List Visit) × (visits e node tree ≡ visit_of node tree ∷ rest)
+visits_first e node (Split kids) = (visits_among e (kid_goals (cover_of e node.goal)) kids, refl)
+visits_first e node (Branch feature value low high) =
+    (visits e (with_limit node (low_limit feature value)) low ++ visits e (with_limit node (high_limit feature value)) high, refl)
+visits_first e node (Cut multipliers) = ([], refl)
 
 mutual
-  pub visits_few : (roots : List Goal) (goal : Goal) (limits : List Limit) (node : Plain) → length (visits roots goal limits node) ≤ size node
-  visits_few roots goal limits (Split kids) = omega (arith, among_few roots (kid_goals (cover_of roots goal)) kids)
-  visits_few roots goal limits (Branch feature value low high) = omega (
+  pub visits_few : (e : Election) (node : Node) (tree : Plain) → length (visits e node tree) ≤ size tree
+  visits_few e node (Split kids) = omega (arith, among_few e (kid_goals (cover_of e node.goal)) kids)
+  visits_few e node (Branch feature value low high) = omega (
     arith,
-    visits_few roots goal (limits ++ low_limit feature value ∷ []) low,
-    visits_few roots goal (limits ++ high_limit feature value ∷ []) high,
-    length-append (visits roots goal (limits ++ low_limit feature value ∷ []) low) (visits roots goal (limits ++ high_limit feature value ∷ []) high),
+    visits_few e (with_limit node (low_limit feature value)) low,
+    visits_few e (with_limit node (high_limit feature value)) high,
+    length-append (visits e (with_limit node (low_limit feature value)) low) (visits e (with_limit node (high_limit feature value)) high),
   )
-  visits_few roots goal limits (Cut multipliers) = omega arith
+  visits_few e node (Cut multipliers) = omega arith
 
-  pub among_few : (roots goals : List Goal) (kids : Kids) → length (visits_among roots goals kids) ≤ size_all kids
-  among_few roots goals tree.None = omega arith
-  among_few roots [] (tree.More kid kids) = omega arith
-  among_few roots (goal ∷ goals) (tree.More kid kids) = omega (
+  pub among_few : (e : Election) (goals : List Goal) (kids : Kids) → length (visits_among e goals kids) ≤ size_all kids
+  among_few e goals tree.None = omega arith
+  among_few e [] (tree.More kid kids) = omega arith
+  among_few e (goal ∷ goals) (tree.More kid kids) = omega (
     arith,
-    visits_few roots goal [] kid,
-    among_few roots goals kids,
-    length-append (visits roots goal [] kid) (visits_among roots goals kids),
+    visits_few e (without_limits goal) kid,
+    among_few e goals kids,
+    length-append (visits e (without_limits goal) kid) (visits_among e goals kids),
   )
 
 -- ---- a walk over a node
 
-pub asked_shape : (rule : Rule) (p : Poll) (reported : Outcome) (roots : List Goal) (asked : Asked) (goal : Goal) (limits : List Limit) (node : Plain) → AnswersAt rule p reported roots asked goal limits node
-    → IsShapedAt rule p.c reported roots goal limits node
-asked_shape rule p reported roots Shape goal limits node h = h
-asked_shape rule p reported roots (Cuts t) goal limits node h = h.0
+pub shape_known : (e : Election) (asked : Asked) (visit : Visit) → IsKnown e asked visit → Gives e asked visit → IsShaped e visit.node visit.tree
+shape_known e Shape visit known given = given
+shape_known e (Cuts t) visit known given = known
 
-pub walk_stops : (rule : Rule) (p : Poll) (reported : Outcome) (roots : List Goal) (asked : Asked) (goal : Goal) (node : Plain) (number : ℕ) → (AnswersAt rule p reported roots asked goal [] node → ⊥)
-    → EndsAt (Answers rule p reported roots asked) number (visits roots goal [] node) (Stopped number)
-walk_stops rule p reported roots asked goal node number fails =
-    let first = visits_first roots goal [] node in
-    rw first.1 (stops_here (Answers rule p reported roots asked) number (record { goal = goal; limits = []; node = node }) first.0 fails)
+-- what is known of the topmost node
+pub first_known : (e : Election) (asked : Asked) (node : Node) (tree : Plain) → All (IsKnown e asked) (visits e node tree) → IsKnown e asked (visit_of node tree)
+first_known e asked node tree known =
+    let first = visits_first e node tree in
+    All-head (IsKnown e asked) (visit_of node tree) first.0 (subst (λ vs. All (IsKnown e asked) vs) first.1 known)
 
-pub walk_over_cut : (rule : Rule) (p : Poll) (reported : Outcome) (roots : List Goal) (asked : Asked) (goal : Goal) (tree : Tree) (multipliers : List ℕ) (number : ℕ) → tree ≡ program.Cut multipliers
-    → AnswersAt rule p reported roots asked goal [] (plain_of tree) → EndsAt (Answers rule p reported roots asked) number (visits roots goal [] (plain_of tree)) (Through (number + 1))
-walk_over_cut rule p reported roots asked goal tree multipliers number is good =
+pub walk_stops : (e : Election) (asked : Asked) (node : Node) (tree : Plain) (number : ℕ) → (Gives e asked (visit_of node tree) → ⊥)
+    → EndsAt (Gives e asked) number (visits e node tree) (Stopped number)
+walk_stops e asked node tree number fails =
+    let first = visits_first e node tree in
+    rw first.1 (stops_here (Gives e asked) number (visit_of node tree) first.0 fails)
+
+pub walk_over_cut : (e : Election) (asked : Asked) (node : Node) (tree : Tree) (multipliers : List ℕ) (number : ℕ) → tree ≡ program.Cut multipliers
+    → Gives e asked (visit_of node (plain_of tree)) → EndsAt (Gives e asked) number (visits e node (plain_of tree)) (Through (number + 1))
+walk_over_cut e asked node tree multipliers number is good =
     let same : plain_of tree ≡ Cut multipliers = ap plain_of is ∙ plain_Cut multipliers in
-    let here : AnswersAt rule p reported roots asked goal [] (Cut multipliers) = subst (λ node. AnswersAt rule p reported roots asked goal [] node) same good in
-    rw same (one_through (Answers rule p reported roots asked) number (record { goal = goal; limits = []; node = Cut multipliers }) [] (Through (number + 1)) here
-    (none_left (Answers rule p reported roots asked) (number + 1)))
+    let here : Gives e asked (visit_of node (Cut multipliers)) = subst (λ t. Gives e asked (visit_of node t)) same good in
+    rw same (one_through (Gives e asked) number (visit_of node (Cut multipliers)) [] (Through (number + 1)) here
+    (none_left (Gives e asked) (number + 1)))
 
-pub walk_over_split : (rule : Rule) (p : Poll) (reported : Outcome) (roots : List Goal) (asked : Asked) (goal : Goal) (tree : Tree) (kids lent : List Tree) (goals shown : List Goal) (number : ℕ) (end : End)
-    → tree ≡ program.Split kids → cover_of roots goal ≡ Some goals → AnswersAt rule p reported roots asked goal [] (plain_of tree) → shown ≡ goals → lent ≡ kids
-    → EndsAt (Answers rule p reported roots asked) (number + 1) (visits_among roots shown (kids_of (map plain_of lent))) end
-    → EndsAt (Answers rule p reported roots asked) number (visits roots goal [] (plain_of tree)) end
-walk_over_split rule p reported roots asked goal tree kids lent goals shown number end is covered good shown_is lent_is given =
-    let rest : EndsAt (Answers rule p reported roots asked) (number + 1) (visits_among roots goals (kids_of (map plain_of kids))) end =
-    subst (λ gs. EndsAt (Answers rule p reported roots asked) (number + 1) (visits_among roots gs (kids_of (map plain_of kids))) end) shown_is
-    (subst (λ ks. EndsAt (Answers rule p reported roots asked) (number + 1) (visits_among roots shown (kids_of (map plain_of ks))) end) lent_is given) in
+-- the visits of a split
+pub over_split : (e : Election) (node : Node) (tree : Tree) (kids lent : List Tree) (goals shown : List Goal) → tree ≡ program.Split kids
+    → cover_of e node.goal ≡ Some goals → shown ≡ goals → lent ≡ kids
+    → visits e node (plain_of tree) ≡ visit_of node (plain_of tree) ∷ visits_among e shown (kids_of (map plain_of lent))
+over_split e node tree kids lent goals shown is covered shown_is lent_is =
     let same : plain_of tree ≡ Split (kids_of (map plain_of kids)) = ap plain_of is ∙ plain_Split kids in
-    let here : AnswersAt rule p reported roots asked goal [] (Split (kids_of (map plain_of kids))) = subst (λ node. AnswersAt rule p reported roots asked goal [] node) same good in
-    let below : EndsAt (Answers rule p reported roots asked) (number + 1) (visits_among roots (kid_goals (cover_of roots goal)) (kids_of (map plain_of kids))) end =
-    subst (λ gs. EndsAt (Answers rule p reported roots asked) (number + 1) (visits_among roots (kid_goals gs) (kids_of (map plain_of kids))) end) (sym covered) rest in
-    rw same (one_through (Answers rule p reported roots asked) number (record { goal = goal; limits = []; node = Split (kids_of (map plain_of kids)) })
-    (visits_among roots (kid_goals (cover_of roots goal)) (kids_of (map plain_of kids))) end here below)
+    let got : kid_goals (cover_of e node.goal) ≡ shown = ap kid_goals covered ∙ sym shown_is in
+    rw (same, got, lent_is) refl
+
+pub walk_over_split : (e : Election) (asked : Asked) (node : Node) (tree : Tree) (among : List Visit) (number : ℕ) (end : End)
+    → visits e node (plain_of tree) ≡ visit_of node (plain_of tree) ∷ among → Gives e asked (visit_of node (plain_of tree))
+    → EndsAt (Gives e asked) (number + 1) among end → EndsAt (Gives e asked) number (visits e node (plain_of tree)) end
+walk_over_split e asked node tree among number end are good rest =
+    rw are (one_through (Gives e asked) number (visit_of node (plain_of tree)) among end good rest)
+
+pub known_below : (e : Election) (asked : Asked) (node : Node) (tree : Tree) (among : List Visit)
+    → visits e node (plain_of tree) ≡ visit_of node (plain_of tree) ∷ among → All (IsKnown e asked) (visits e node (plain_of tree)) → All (IsKnown e asked) among
+known_below e asked node tree among are known =
+    All-tail (IsKnown e asked) (visit_of node (plain_of tree)) among (subst (λ vs. All (IsKnown e asked) vs) are known)
+
+-- a branch hasn't its shape yet
+pub no_branch : (e : Election) (asked : Asked) (node : Node) (tree : Tree) (feature : Feature) (value : ℕ) (low high : Tree)
+    → tree ≡ program.Branch feature value low high → All (IsKnown e asked) (visits e node (plain_of tree)) → Gives e asked (visit_of node (plain_of tree)) → ⊥
+no_branch e asked node tree feature value low high is known given =
+    no_feature e node.goal feature
+    ((shaped_Branch e node tree feature value low high is).0
+    (shape_known e asked (visit_of node (plain_of tree)) (first_known e asked node (plain_of tree) known) given))
 
 -- what walking over the kids of a split asks
-pub as_many_kids : (rule : Rule) (p : Poll) (reported : Outcome) (roots : List Goal) (asked : Asked) (goal : Goal) (tree : Tree) (kids : List Tree) (goals : List Goal) → tree ≡ program.Split kids
-    → cover_of roots goal ≡ Some goals → AnswersAt rule p reported roots asked goal [] (plain_of tree) → length goals ≡ length kids
-as_many_kids rule p reported roots asked goal tree kids goals is covered good =
-    let s = (shaped_Split rule p.c reported roots goal tree kids is).0 (asked_shape rule p reported roots asked goal [] (plain_of tree) good) in
-    let t : Some (length goals) ≡ Some (length kids) = ap (option_map length) (sym covered) ∙ s in
+split_shape : (e : Election) (asked : Asked) (node : Node) (tree : Tree) (kids : List Tree) → tree ≡ program.Split kids
+    → All (IsKnown e asked) (visits e node (plain_of tree)) → Gives e asked (visit_of node (plain_of tree))
+    → (node.limits ≡ []) × (option_map length (cover_of e node.goal) ≡ Some (length kids))
+split_shape e asked node tree kids is known given =
+    (shaped_Split e node tree kids is).0
+    (shape_known e asked (visit_of node (plain_of tree)) (first_known e asked node (plain_of tree) known) given)
+
+pub split_free : (e : Election) (asked : Asked) (node : Node) (tree : Tree) (kids : List Tree) → tree ≡ program.Split kids
+    → All (IsKnown e asked) (visits e node (plain_of tree)) → Gives e asked (visit_of node (plain_of tree)) → node.limits ≡ []
+split_free e asked node tree kids is known given = (split_shape e asked node tree kids is known given).0
+
+pub as_many_kids : (e : Election) (asked : Asked) (node : Node) (tree : Tree) (kids : List Tree) (goals : List Goal) → tree ≡ program.Split kids
+    → cover_of e node.goal ≡ Some goals → All (IsKnown e asked) (visits e node (plain_of tree)) → Gives e asked (visit_of node (plain_of tree))
+    → length goals ≡ length kids
+as_many_kids e asked node tree kids goals is covered known given =
+    let t : Some (length goals) ≡ Some (length kids) =
+    ap (option_map length) (sym covered) ∙ (split_shape e asked node tree kids is known given).1 in
     cc
 
-pub has_cover : (rule : Rule) (p : Poll) (reported : Outcome) (roots : List Goal) (asked : Asked) (goal : Goal) (tree : Tree) (kids : List Tree) → tree ≡ program.Split kids
-    → cover_of roots goal ≡ None → AnswersAt rule p reported roots asked goal [] (plain_of tree) → ⊥
-has_cover rule p reported roots asked goal tree kids is covered good =
-    let s = (shaped_Split rule p.c reported roots goal tree kids is).0 (asked_shape rule p reported roots asked goal [] (plain_of tree) good) in
-    let t : None ≡ Some (length kids) = ap (option_map length) (sym covered) ∙ s in
+pub has_cover : (e : Election) (asked : Asked) (node : Node) (tree : Tree) (kids : List Tree) → tree ≡ program.Split kids
+    → cover_of e node.goal ≡ None → All (IsKnown e asked) (visits e node (plain_of tree)) → Gives e asked (visit_of node (plain_of tree)) → ⊥
+has_cover e asked node tree kids is covered known given =
+    let t : None ≡ Some (length kids) = ap (option_map length) (sym covered) ∙ (split_shape e asked node tree kids is known given).1 in
     cc
 
-root_reached : (roots : List Goal) (goal : Goal) → Contains roots goal → IsReached roots goal
-root_reached roots Root there = tt
-root_reached roots (Pair g l) there = there
-
-pub cover_reached : (roots goals : List Goal) (goal : Goal) → cover_of roots goal ≡ Some goals → All (IsReached roots) goals
-cover_reached roots goals Root covered =
-    let same : roots ≡ goals = cc in
-    rw (← same) (λ k d lt. root_reached roots (get_or roots k d) (All-contains_itself roots k d lt))
-cover_reached roots goals (Pair g l) covered = cc
+pub cover_reached : (e : Election) (goals : List Goal) (goal : Goal) → cover_of e goal ≡ Some goals → All (IsReached e) goals
+cover_reached e goals Root covered =
+    let same : e.roots ≡ goals = cc in
+    rw (← same) (λ k d lt. (reached_exactly e (get_or e.roots k d)).1 (inr (All-contains_itself e.roots k d lt)))
+cover_reached e goals (Pair g l) covered = cc
 
 pub if_ok : {X E : Type 0} {P Q : X → Type 0} (result : Result X E) → ((x : X) → P x → Q x) → IfOk result P → IfOk result Q
 if_ok (Ok x) weaker h = weaker x h
 if_ok (Err e) weaker h = tt
 
+pub before : {X : Type 0} (P : X → Type 0) (xs ys : List X) → All P (xs ++ ys) → All P xs
+before P [] ys all = All-nil P
+before P (x ∷ xs) ys all = All-cons P x xs (All-head P x (xs ++ ys) all) (before P xs ys (All-tail P x (xs ++ ys) all))
+
+pub behind : {X : Type 0} (P : X → Type 0) (xs ys : List X) → All P (xs ++ ys) → All P ys
+behind P [] ys all = all
+behind P (x ∷ xs) ys all = behind P xs ys (All-tail P x (xs ++ ys) all)
+
 -- ---- a walk over the kids of a split, from the i-th on
 
-kids_from : (roots goals : List Goal) (kids : List Tree) (i : ℕ) (d : Goal) (kid : Tree) → i < length goals → i < length kids → kid ≡ get_or kids i kid
-    → visits_among roots (drop i goals) (kids_of (map plain_of (drop i kids))) ≡ visits roots (get_or goals i d) [] (plain_of kid) ++ visits_among roots (drop (i + 1) goals) (kids_of (map plain_of (drop (i + 1) kids)))
-kids_from roots goals kids i d kid first second same =
+-- the visits below the kids from the i-th on
+abbrev pub rest_of : Election → List Goal → List Tree → ℕ → List Visit
+rest_of e goals kids i = visits_among e (drop i goals) (kids_of (map plain_of (drop i kids)))
+
+pub kids_from : (e : Election) (goals : List Goal) (kids : List Tree) (i : ℕ) (d : Goal) (kid : Tree) → i < length goals → i < length kids → kid ≡ get_or kids i kid
+    → rest_of e goals kids i ≡ visits e (without_limits (get_or goals i d)) (plain_of kid) ++ rest_of e goals kids (i + 1)
+kids_from e goals kids i d kid first second same =
     let g : drop i goals ≡ get_or goals i d ∷ drop (i + 1) goals = drop_more goals i d first in
-    let e : drop i kids ≡ kid ∷ drop (i + 1) kids = drop_more kids i kid second ∙ ap (λ k. k ∷ drop (i + 1) kids) (sym same) in
-    rw (g, e) refl
+    let k : drop i kids ≡ kid ∷ drop (i + 1) kids = drop_more kids i kid second ∙ ap (λ k. k ∷ drop (i + 1) kids) (sym same) in
+    rw (g, k) refl
 
-pub kid_stops : (P : Visit → Type 0) (roots goals : List Goal) (kids : List Tree) (i next : ℕ) (d : Goal) (kid : Tree) (end : End) (at : ℕ) → i < length goals → i < length kids → kid ≡ get_or kids i kid → end ≡ Stopped at
-    → EndsAt P next (visits roots (get_or goals i d) [] (plain_of kid)) end → EndsAt P next (visits_among roots (drop i goals) (kids_of (map plain_of (drop i kids)))) (Stopped at)
-kid_stops P roots goals kids i next d kid end at first second same is given =
-    let stopped : EndsAt P next (visits roots (get_or goals i d) [] (plain_of kid)) (Stopped at) = subst (λ e. EndsAt P next (visits roots (get_or goals i d) [] (plain_of kid)) e) is given in
-    subst (λ vs. EndsAt P next vs (Stopped at)) (sym (kids_from roots goals kids i d kid first second same))
-    (stopped_in P next (visits roots (get_or goals i d) [] (plain_of kid)) (visits_among roots (drop (i + 1) goals) (kids_of (map plain_of (drop (i + 1) kids)))) at stopped)
+-- the end over this kid and those behind it
+pub kid_stops : (P : Visit → Type 0) (here rest all : List Visit) (next at : ℕ) (end : End) → all ≡ here ++ rest → end ≡ Stopped at → EndsAt P next here end
+    → EndsAt P next all (Stopped at)
+kid_stops P here rest all next at end are is given =
+    rw are (stopped_in P next here rest at (subst (λ x. EndsAt P next here x) is given))
 
-pub kid_through : (P : Visit → Type 0) (roots goals : List Goal) (kids : List Tree) (i next behind : ℕ) (d : Goal) (kid : Tree) (given end : End) → i < length goals → i < length kids → kid ≡ get_or kids i kid → given ≡ Through behind
-    → EndsAt P next (visits roots (get_or goals i d) [] (plain_of kid)) given → EndsAt P behind (visits_among roots (drop (i + 1) goals) (kids_of (map plain_of (drop (i + 1) kids)))) end
-    → EndsAt P next (visits_among roots (drop i goals) (kids_of (map plain_of (drop i kids)))) end
-kid_through P roots goals kids i next behind d kid given end first second same is here rest =
-    let through : EndsAt P next (visits roots (get_or goals i d) [] (plain_of kid)) (Through behind) = subst (λ e. EndsAt P next (visits roots (get_or goals i d) [] (plain_of kid)) e) is here in
-    subst (λ vs. EndsAt P next vs end) (sym (kids_from roots goals kids i d kid first second same))
-    (through_both P next behind (visits roots (get_or goals i d) [] (plain_of kid)) (visits_among roots (drop (i + 1) goals) (kids_of (map plain_of (drop (i + 1) kids)))) end through rest)
+pub kid_through : (P : Visit → Type 0) (here rest all : List Visit) (next behind : ℕ) (given end : End) → all ≡ here ++ rest → given ≡ Through behind
+    → EndsAt P next here given → EndsAt P behind rest end → EndsAt P next all end
+kid_through P here rest all next behind given end are is one more =
+    rw are (through_both P next behind here rest end (subst (λ x. EndsAt P next here x) is one) more)
 
-pub none_behind : (P : Visit → Type 0) (roots goals : List Goal) (kids : List Tree) (i next : ℕ) → length kids ≤ i
-    → EndsAt P next (visits_among roots (drop i goals) (kids_of (map plain_of (drop i kids)))) (Through next)
-none_behind P roots goals kids i next over =
-    let e : drop i kids ≡ [] = drop_all i kids over in
-    rw e (none_left P next)
+pub none_behind : (P : Visit → Type 0) (e : Election) (goals : List Goal) (kids : List Tree) (i next : ℕ) → length kids ≤ i
+    → EndsAt P next (rest_of e goals kids i) (Through next)
+none_behind P e goals kids i next over =
+    let k : drop i kids ≡ [] = drop_all i kids over in
+    rw k (none_left P next)
 
 -- how far the number behind a kid is
-pub kid_few : (P : Visit → Type 0) (roots goals : List Goal) (kids : List Tree) (i number next behind : ℕ) (d : Goal) (kid : Tree) (given : End) → i < length kids → kid ≡ get_or kids i kid
-    → next ≤ number + sum_by (λ k. size (plain_of k)) (take i kids) → given ≡ Through behind → EndsAt P next (visits roots (get_or goals i d) [] (plain_of kid)) given
+pub kid_few : (P : Visit → Type 0) (e : Election) (goal : Goal) (kids : List Tree) (i number next behind : ℕ) (kid : Tree) (given : End) → i < length kids → kid ≡ get_or kids i kid
+    → next ≤ number + sum_by (λ k. size (plain_of k)) (take i kids) → given ≡ Through behind → EndsAt P next (visits e (without_limits goal) (plain_of kid)) given
     → behind ≤ number + sum_by (λ k. size (plain_of k)) (take (i + 1) kids)
-kid_few P roots goals kids i number next behind d kid given within same few is here =
-    let through : EndsAt P next (visits roots (get_or goals i d) [] (plain_of kid)) (Through behind) = subst (λ e. EndsAt P next (visits roots (get_or goals i d) [] (plain_of kid)) e) is here in
-    let f = visits_few roots (get_or goals i d) [] (plain_of kid) in
+kid_few P e goal kids i number next behind kid given within same few is here =
+    let through : EndsAt P next (visits e (without_limits goal) (plain_of kid)) (Through behind) = subst (λ x. EndsAt P next (visits e (without_limits goal) (plain_of kid)) x) is here in
+    let f = visits_few e (without_limits goal) (plain_of kid) in
     let m = size_more kids i kid (slice_get_read kids (length kids) i kid refl within same) in
     omega (arith, f, m, few, through.1)

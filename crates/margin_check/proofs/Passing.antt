@@ -1,30 +1,29 @@
--- The cut test of a node without limits, from what its goal is before any replacement.
-use Rattle.std.proofs.Common.{ℕ, List, [], ◌∷◌, Bool, true, false, IsTrue, ◌≡◌, ◌<◌, ◌≤◌, ◌+◌, ◌∙◌, ◌↔◌, length, map, min, cond, ap, sym, subst, arith}
-use Rattle.std.specs.Prelude.{nat_eq, Contains, ℤ}
+-- The cut test of a node.
+use Rattle.std.proofs.Common.{ℕ, zero, suc, List, [], ◌∷◌, All, Bool, true, false, IsTrue, ◌≡◌, ◌<◌, ◌≤◌, ◌+◌, ◌∙◌, ◌↔◌, length, map, min, cond, ap, subst, sym, arith}
+use Rattle.std.specs.Prelude.{nat_eq, ℤ}
 use Rattle.std.specs.Str.{bytes_eq}
 use Rattle.std.proofs.lemmas.List.{length-map}
-use Rattle.ballot_form.specs.Ballots.{IsPoll, Poll}
-use Rattle.ballot_form.specs.declared.outcome.Outcome.{Outcome}
-use Rattle.ballot_form.specs.declared.outcome.Outcome.TheVariants.{Winner, NoWinner, Seats}
-use Rattle.ballot_form.specs.declared.rule.Rule.{Rule}
-use Rattle.ballot_form.specs.declared.rule.Rule.TheVariants.{Plurality}
+use Rattle.mov_base.specs.Sums.{sum_z}
+use Rattle.exact_num.specs.declared.limits.TheConstants.{WIDE}
 use Rattle.row_program.specs.declared.Feature.{Feature}
+use Rattle.row_program.specs.declared.Limit.{Limit}
 use Rattle.bound_tree.specs.declared.tree.Tree.{Tree}
 use Rattle.bound_tree.specs.declared.tree.Tree.TheVariants as program
 use Rattle.bound_tree.specs.Plain.{Cut, plain_of}
 use Rattle.bound_tree.proofs.Shapes.{plain_Split, plain_Branch, plain_Cut}
-use Rattle.margin_check.specs.Proving.{IsShapedAt, PassesAt}
 use Rattle.signature_class.specs.Classes.{add_all, add_class, classes_of}
 use Rattle.signature_class.proofs.Counts.{classes_by_kinds, regrouped}
-use Rattle.goal_rows.specs.Goals.{IsReached, root_goals}
-use Rattle.goal_rows.specs.Outcomes.{IsReported}
-use Rattle.goal_rows.specs.Races.{IsGroundOf, IsRace, pair_key}
+use Rattle.goal_rows.specs.Elections.{Election, Node}
+use Rattle.goal_rows.specs.Goals.{rows_of}
+use Rattle.goal_rows.specs.Nodes.{AreLimits, IsFeatureOf, node_of}
+use Rattle.goal_rows.specs.Races.{IsGroundIn, IsGroundOf, IsRace, election_of, key_of, keys_of}
 use Rattle.goal_rows.specs.declared.goals.Goal.{Goal}
 use Rattle.goal_rows.specs.declared.goals.Goal.TheVariants.{Root, Pair}
 use Rattle.goal_rows.specs.declared.parts.Ground.{Ground}
-use Rattle.goal_rows.proofs.Roots.{pairs_are}
-use Rattle.dual_bound.specs.CutTest.{Cuts, CutsKept}
-use Rattle.dual_bound.specs.Nodes.{IsGoalOf, IsNodeOf, kept_of}
+use Rattle.goal_rows.specs.declared.parts.Race.{Race}
+use Rattle.dual_bound.specs.CutTest.{AreMultipliers, Cuts, CutsKept, weighed_of}
+use Rattle.margin_check.specs.Proving.{Passes, number_count}
+use Rattle.margin_check.specs.Visits.{visit_of}
 
 -- ---- there are at most as many classes as kinds
 
@@ -47,70 +46,52 @@ keyed_few key rows =
     let g : length (regrouped key (classes_of bytes_eq rows)) ≡ length (classes_of bytes_eq rows) = length-map (classes_of bytes_eq rows) (λ k. (key k.0, k.1)) in
     omega (arith, e, f, g)
 
-pub room_for : (rule : Rule) (p : Poll) (reported : Outcome) (goal : Goal) (classes : List (ℕ × ℕ)) (sums : List ℤ) (ballots : ℕ) (lone : ℤ) (kinds : List (List ℕ × ℕ)) (room : ℕ)
-    → kinds ≡ classes_of bytes_eq p.ballots → IsGroundOf rule p reported goal classes sums ballots lone → length kinds ≤ room → length classes ≤ room
-room_for rule p reported Root classes sums ballots lone kinds room are is enough =
-    let e : length classes ≡ 0 = ap length is.classes_are in
-    omega (arith, e)
-room_for rule p reported (Pair g l) classes sums ballots lone kinds room are is enough =
-    let e : length classes ≡ length (classes_of nat_eq (map (pair_key rule p.c reported g l) p.ballots)) = ap length is.classes_are in
-    let f = keyed_few (pair_key rule p.c reported g l) p.ballots in
-    let k : length kinds ≡ length (classes_of bytes_eq p.ballots) = ap length are in
-    omega (arith, e, f, k, enough)
+pub room_for : (race : Race) (start : Ground) (room : ℕ) → IsRace race → IsGroundOf (election_of race) start → length race.kinds ≤ room → length start.classes ≤ room
+room_for race start room is values enough = by start.goal (ap length values.classes)
+  where
+    by : (goal : Goal) → length start.classes ≡ length (classes_of nat_eq (keys_of (election_of race) goal)) → length start.classes ≤ room
+    by Root many = omega (arith, many)
+    by (Pair g l) many =
+        let f = keyed_few (key_of (election_of race) (Pair g l)) race.roll.now.ballots in
+        let k : length race.kinds ≡ length (classes_of bytes_eq race.roll.now.ballots) = ap length is.kinds in
+        omega (arith, many, f, k, enough)
 
--- ---- the node of a goal that is reached
+-- the numbers of a cut are multipliers
+pub are_multipliers : (e : Election) (start : Ground) (limits : List Limit) (given ls : List ℕ) → IsGroundOf e start → given ≡ ls
+    → length ls ≡ number_count e (node_of start limits) → All (λ l. l < WIDE) ls → AreMultipliers start limits given
+are_multipliers e start limits given ls values lent many small =
+    let n : length start.sums ≡ length (rows_of e start.goal) = ap length values.sums ∙ length-map (rows_of e start.goal) (λ weight. sum_z weight e.poll.ballots) in
+    record { one_each = omega (arith, ap length lent, many, n); small = subst (λ xs. All (λ l. l < WIDE) xs) (sym lent) small }
 
-reached_pair : (p : Poll) (reported : Outcome) (g l : ℕ) → IsReported Plurality p reported → Contains (root_goals Plurality p.c reported) (Pair g l) → IsGoalOf p.c (Pair g l)
-reached_pair p (Winner x) g l is there =
-    let h = pairs_are p.c x g l there in
-    (h.0, subst (λ y. y < p.c) (sym h.2) is.greatest.stands, λ e. h.1 (e ∙ h.2))
-reached_pair p NoWinner g l is there = absurd is
-reached_pair p (Seats shares) g l is there = absurd is
-
-reached_goal : (p : Poll) (reported : Outcome) (roots : List Goal) (goal : Goal) → roots ≡ root_goals Plurality p.c reported → IsReported Plurality p reported → IsReached roots goal → IsGoalOf p.c goal
-reached_goal p reported roots Root are is reached = tt
-reached_goal p reported roots (Pair g l) are is reached = reached_pair p reported g l is (rw are at reached)
-
-pub node_of : (rule : Rule) (p : Poll) (kinds : List (List ℕ × ℕ)) (reported : Outcome) (roots : List Goal) (goal : Goal) (node : Ground) → rule ≡ Plurality → IsPoll p
-    → IsRace rule p kinds reported roots → IsReached roots goal → node.goal ≡ goal → IsGroundOf rule p reported goal node.classes node.sums node.ballots node.lone
-    → IsNodeOf rule p reported node
-node_of rule p kinds reported roots goal node is poll race reached same values = record {
-  plurality = is;
-  poll = poll;
-  goal =
-      let reported_is : IsReported Plurality p reported = subst (λ r. IsReported r p reported) is race.reported_is in
-      let are : roots ≡ root_goals Plurality p.c reported = race.roots_are ∙ ap (λ r. root_goals r p.c reported) is in
-      subst (λ g. IsGoalOf p.c g) (sym same) (reached_goal p reported roots goal are reported_is reached);
-  values = subst (λ g. IsGroundOf rule p reported g node.classes node.sums node.ballots node.lone) (sym same) values;
-}
+-- limits of a goal are limits of it in any election
+pub limits_anywhere : (e other : Election) (node : Node) → AreLimits e node → AreLimits other node
+limits_anywhere e other node are = record { few = are.few; small = are.small; features = λ k d lt. by node.goal (are.features k d lt) }
+  where
+    by : (goal : Goal) {feature : Feature} → IsFeatureOf e goal feature → IsFeatureOf other goal feature
+    by Root h = h
+    by (Pair g l) h = h
 
 -- beyond one more than there are ballots the test is the one there
-pub cut_within : (rule : Rule) (p : Poll) (reported : Outcome) (at goal : Goal) (given multipliers : List ℕ) (t within ballots : ℕ) (b : Bool) → at ≡ goal → given ≡ multipliers → ballots ≡ length p.ballots
-    → within ≡ min t (ballots + 1) → (IsTrue b ↔ Cuts rule p reported at [] given within) → IsTrue b ↔ Cuts rule p reported goal [] multipliers t
-cut_within rule p reported at goal given multipliers t within ballots b same lent many is test =
-    let e : min within (length p.ballots + 1) ≡ min t (length p.ballots + 1) = omega (arith, many, is) in
-    let f : Cuts rule p reported at [] given within ≡ Cuts rule p reported goal [] multipliers t =
-    ap (λ n. CutsKept p.c p.ballots (kept_of rule p reported at []) given n) e ∙ ap (λ g. Cuts rule p reported g [] given t) same
-    ∙ ap (λ ms. Cuts rule p reported goal [] ms t) lent in
+pub cut_within : (e : Election) (node : Node) (given ls : List ℕ) (t within ballots : ℕ) (b : Bool) → given ≡ ls → ballots ≡ length e.poll.ballots
+    → within ≡ min t (ballots + 1) → (IsTrue b ↔ Cuts e node given within) → IsTrue b ↔ Cuts e node ls t
+cut_within e node given ls t within ballots b lent many is test =
+    let n : min within (length e.poll.ballots + 1) ≡ min t (length e.poll.ballots + 1) = omega (arith, many, is) in
+    let f : Cuts e node given within ≡ Cuts e node ls t =
+    ap (λ k. CutsKept e.poll (weighed_of e node given) k) n ∙ ap (λ xs. Cuts e node xs t) lent in
     subst (λ (X : Type 0). IsTrue b ↔ X) f test
 
 -- ---- what is asked of a node
 
-pub passing_Cut : (rule : Rule) (p : Poll) (reported : Outcome) (roots : List Goal) (goal : Goal) (tree : Tree) (multipliers : List ℕ) (t : ℕ) (b : Bool) → tree ≡ program.Cut multipliers
-    → IsShapedAt rule p.c reported roots goal [] (plain_of tree) → (IsTrue b ↔ Cuts rule p reported goal [] multipliers t)
-    → IsTrue b ↔ (IsShapedAt rule p.c reported roots goal [] (plain_of tree) × PassesAt rule p reported t goal [] (plain_of tree))
-passing_Cut rule p reported roots goal tree multipliers t b is shaped test =
-    let same : plain_of tree ≡ Cut multipliers = ap plain_of is ∙ plain_Cut multipliers in (
-      λ h. (shaped, subst (λ node. PassesAt rule p reported t goal [] node) (sym same) (test.0 h)),
-      λ h. test.1 (subst (λ node. PassesAt rule p reported t goal [] node) same h.1),
-    )
+pub passes_Cut : (e : Election) (node : Node) (tree : Tree) (multipliers : List ℕ) (t : ℕ) (b : Bool) → tree ≡ program.Cut multipliers
+    → (IsTrue b ↔ Cuts e node multipliers t) → IsTrue b ↔ Passes e t node (plain_of tree)
+passes_Cut e node tree multipliers t b is test =
+    let same : plain_of tree ≡ Cut multipliers = ap plain_of is ∙ plain_Cut multipliers in
+    rw same test
 
-pub passing_Split : (rule : Rule) (p : Poll) (reported : Outcome) (roots : List Goal) (goal : Goal) (tree : Tree) (kids : List Tree) (t : ℕ) → tree ≡ program.Split kids
-    → PassesAt rule p reported t goal [] (plain_of tree)
-passing_Split rule p reported roots goal tree kids t is =
-    subst (λ node. PassesAt rule p reported t goal [] node) (sym (ap plain_of is ∙ plain_Split kids)) tt
+pub passes_Split : (e : Election) (node : Node) (tree : Tree) (kids : List Tree) (t : ℕ) → tree ≡ program.Split kids → Passes e t node (plain_of tree)
+passes_Split e node tree kids t is = subst (λ plain. Passes e t node plain) (sym (ap plain_of is ∙ plain_Split kids)) tt
 
-pub passing_Branch : (rule : Rule) (p : Poll) (reported : Outcome) (roots : List Goal) (goal : Goal) (tree : Tree) (feature : Feature) (value : ℕ) (low high : Tree) (t : ℕ)
-    → tree ≡ program.Branch feature value low high → PassesAt rule p reported t goal [] (plain_of tree)
-passing_Branch rule p reported roots goal tree feature value low high t is =
-    subst (λ node. PassesAt rule p reported t goal [] node) (sym (ap plain_of is ∙ plain_Branch feature value low high)) tt
+pub passes_Branch : (e : Election) (node : Node) (tree : Tree) (feature : Feature) (value : ℕ) (low high : Tree) (t : ℕ) → tree ≡ program.Branch feature value low high
+    → Passes e t node (plain_of tree)
+passes_Branch e node tree feature value low high t is =
+    subst (λ plain. Passes e t node plain) (sym (ap plain_of is ∙ plain_Branch feature value low high)) tt

@@ -1,26 +1,27 @@
 -- There is one verdict on a certificate.
-use Rattle.std.proofs.Common.{ℕ, zero, suc, List, [], ◌∷◌, Some, None, All, ◌≡◌, ◌<◌, ◌+◌, ◌∙◌, ◌↔◌, length, refl, ap, sym, subst, inl, inr, arith}
+use Rattle.std.proofs.Common.{ℕ, zero, suc, List, [], ◌∷◌, ◌++◌, Some, None, All, ◌≡◌, ◌<◌, ◌∙◌, ◌↔◌, get_or, length, refl, ap, sym, subst, inl, inr, arith}
 use Rattle.std.proofs.lemmas.Bool.{cases_lt}
 use Rattle.std.proofs.lemmas.List.Elements.{All-head, All-tail}
-use Rattle.ballot_form.specs.Alterations.{IsAlteration, IsAlterationFrom}
+use Rattle.ballot_form.specs.Alterations.{IsAlteration}
 use Rattle.ballot_form.specs.Ballots.{Poll}
-use Rattle.ballot_form.specs.declared.rule.Rule.TheVariants.{Plurality}
-use Rattle.alteration_model.specs.Faults.{IsFirstFault, IsFirstFaultFrom, pairs_of}
+use Rattle.alteration_model.specs.Faults.{IsFirstFault, pairs_of}
 use Rattle.alteration_model.specs.declared.faults.AlterFault.{AlterFault}
 use Rattle.alteration_model.specs.declared.puts.Put.{Put}
+use Rattle.alteration_model.proofs.Judged.{faultless}
 use Rattle.alteration_model.proofs.Unique.{one_first_fault}
-use Rattle.goal_rows.specs.Goals.{root_goals}
 use Rattle.cert_text.specs.declared.cert.Cert.{Cert}
 use Rattle.margin_check.specs.Proving.{IsShaped, Passes}
-use Rattle.margin_check.specs.Validity.{IsValidCert, cert_visits, level_of}
-use Rattle.margin_check.specs.Verdicts.{Fails, FirstParts, IsFirstWithout, IsRefusal, Judges, Part, number_of, place_of, reason_at}
+use Rattle.margin_check.specs.Validity.{IsValidCert, cert_visits, election_by, level_of}
+use Rattle.margin_check.specs.Verdicts.{Fails, IsFirstWithout, IsJudged, IsRefusal, Judges, Part, PartsHold, earlier, place_of, reason_number, reasons}
+use Rattle.margin_check.specs.Visits.{Visit}
 use Rattle.margin_check.specs.declared.verdict.Reason.{Reason}
 use Rattle.margin_check.specs.declared.verdict.Reason.TheVariants.{NotBuilt, HeadDiffers, ReportedDiffers, BadAlteration, ClaimFails, ShapeDiffers, CutFails, NumbersDisagree}
 use Rattle.margin_check.specs.declared.verdict.Verdict.{Verdict}
 use Rattle.margin_check.specs.declared.verdict.Verdict.TheVariants.{Valid, No}
 
--- a reason by its number
-reason_back : (reason : Reason) → reason_at (number_of reason) ≡ reason
+-- ---- the reasons in their order
+
+reason_back : (reason : Reason) → get_or reasons (reason_number reason) NotBuilt ≡ reason
 reason_back NotBuilt = refl
 reason_back HeadDiffers = refl
 reason_back ReportedDiffers = refl
@@ -30,14 +31,41 @@ reason_back ShapeDiffers = refl
 reason_back CutFails = refl
 reason_back NumbersDisagree = refl
 
-part_before : (i n : ℕ) (p : Poll) (cert : Cert) → i < n → FirstParts n p cert → Part (reason_at i) p cert
-part_before i zero p cert lt parts = absurd (omega (arith, lt))
-part_before i (suc n) p cert lt parts = elim (cases_lt i n) [
-  | inl below ↦ part_before i n p cert below parts.0
-  | inr above ↦ let same : n ≡ i = omega arith in subst (λ k. Part (reason_at k) p cert) same parts.1
-]
+one_number : (reason other : Reason) → reason_number reason ≡ reason_number other → other ≡ reason
+one_number reason other same = sym (reason_back other) ∙ ap (λ n. get_or reasons n NotBuilt) (sym same) ∙ reason_back reason
 
-part_of : (reason : Reason) (p : Poll) (cert : Cert) → cert.rule ≡ Plurality → IsValidCert p cert → Part reason p cert
+earlier_many : (reason : Reason) → length (earlier reason) ≡ reason_number reason
+earlier_many NotBuilt = refl
+earlier_many HeadDiffers = refl
+earlier_many ReportedDiffers = refl
+earlier_many BadAlteration = refl
+earlier_many ClaimFails = refl
+earlier_many ShapeDiffers = refl
+earlier_many CutFails = refl
+earlier_many NumbersDisagree = refl
+
+later : (reason : Reason) → (rest : List Reason) × (earlier reason ++ rest ≡ reasons)
+later NotBuilt = (reasons, refl)
+later HeadDiffers = (HeadDiffers ∷ ReportedDiffers ∷ BadAlteration ∷ ClaimFails ∷ ShapeDiffers ∷ CutFails ∷ NumbersDisagree ∷ [], refl)
+later ReportedDiffers = (ReportedDiffers ∷ BadAlteration ∷ ClaimFails ∷ ShapeDiffers ∷ CutFails ∷ NumbersDisagree ∷ [], refl)
+later BadAlteration = (BadAlteration ∷ ClaimFails ∷ ShapeDiffers ∷ CutFails ∷ NumbersDisagree ∷ [], refl)
+later ClaimFails = (ClaimFails ∷ ShapeDiffers ∷ CutFails ∷ NumbersDisagree ∷ [], refl)
+later ShapeDiffers = (ShapeDiffers ∷ CutFails ∷ NumbersDisagree ∷ [], refl)
+later CutFails = (CutFails ∷ NumbersDisagree ∷ [], refl)
+later NumbersDisagree = (NumbersDisagree ∷ [], refl)
+
+part_among : (p : Poll) (cert : Cert) (before rest : List Reason) (i : ℕ) → i < length before → PartsHold before p cert → Part (get_or (before ++ rest) i NotBuilt) p cert
+part_among p cert [] rest i lt holds = absurd (omega (arith, lt))
+part_among p cert (reason ∷ before) rest zero lt holds = holds.0
+part_among p cert (reason ∷ before) rest (suc i) lt holds = part_among p cert before rest i (omega (arith, lt)) holds.1
+
+part_before : (p : Poll) (cert : Cert) (reason other : Reason) → reason_number reason < reason_number other → PartsHold (earlier other) p cert → Part reason p cert
+part_before p cert reason other lt holds =
+    let behind = later other in
+    subst (λ r. Part r p cert) (ap (λ rs. get_or rs (reason_number reason) NotBuilt) behind.1 ∙ reason_back reason)
+    (part_among p cert (earlier other) behind.0 (reason_number reason) (omega (arith, lt, earlier_many other)) holds)
+
+part_of : (reason : Reason) (p : Poll) (cert : Cert) → IsJudged cert.rule → IsValidCert p cert → Part reason p cert
 part_of NotBuilt p cert is valid = is
 part_of HeadDiffers p cert is valid = valid.head
 part_of ReportedDiffers p cert is valid = valid.reported
@@ -49,13 +77,9 @@ part_of NumbersDisagree p cert is valid = valid.numbers
 
 -- ---- a part that fails doesn't hold, and fails in one line
 
-faultless_from : (p : Poll) (at last : ℕ) (puts : List Put) → IsAlterationFrom p.c (last + 1) (length p.ballots) (pairs_of puts) → IsFirstFaultFrom p at last puts None
-faultless_from p at last [] is = tt
-faultless_from p at last (put ∷ puts) is = ((omega (arith, is.0), is.1, omega (arith, is.0), is.2), faultless_from p (at + 1) put.number puts is.3)
-
 no_fault : (p : Poll) (puts : List Put) (fault : AlterFault) → IsAlteration p (pairs_of puts) → IsFirstFault p puts (Some fault) → ⊥
 no_fault p puts fault ok is =
-    let e : None ≡ Some fault = one_first_fault p puts None (Some fault) (faultless_from p 0 0 puts ok) is in
+    let e : None ≡ Some fault = one_first_fault p puts None (Some fault) ((faultless p puts).1 ok) is in
     cc
 
 not_all : {X : Type 0} (P : X → Type 0) (xs : List X) (place : ℕ) → IsFirstWithout P xs place → All P xs → ⊥
@@ -70,14 +94,22 @@ one_place P (x ∷ xs) zero (suc other) is also = absurd (is also.0)
 one_place P (x ∷ xs) (suc place) zero is also = absurd (also is.0)
 one_place P (x ∷ xs) (suc place) (suc other) is also = ap suc (one_place P xs place other is.1 also.1)
 
+
+-- a node has its shape, or passes where the certificate's cuts are tested
+abbrev pub Shaped : Poll → Cert → Visit → Type 0
+Shaped p cert visit = IsShaped (election_by p cert) visit.node visit.tree
+
+abbrev pub Passing : Poll → Cert → Visit → Type 0
+Passing p cert visit = Passes (election_by p cert) (level_of (length p.ballots) cert.claim) visit.node visit.tree
+
 failing : (reason : Reason) (p : Poll) (cert : Cert) (line : ℕ) → Fails reason p cert line → Part reason p cert → ⊥
 failing NotBuilt p cert line fails part = fails.0 part
 failing HeadDiffers p cert line fails part = fails.0 part
 failing ReportedDiffers p cert line fails part = fails.0 part
 failing BadAlteration p cert line fails part = no_fault p cert.puts fails.0 part fails.1
 failing ClaimFails p cert line fails part = fails.0 part
-failing ShapeDiffers p cert line fails part = not_all (IsShaped cert.rule p.c cert.reported (root_goals cert.rule p.c cert.reported)) (cert_visits p cert) fails.0 fails.1 part
-failing CutFails p cert line fails part = not_all (Passes cert.rule p cert.reported (level_of (length p.ballots) cert.claim)) (cert_visits p cert) fails.0 fails.1 part
+failing ShapeDiffers p cert line fails part = not_all (Shaped p cert) (cert_visits p cert) fails.0 fails.1 part
+failing CutFails p cert line fails part = not_all (Passing p cert) (cert_visits p cert) fails.0 fails.1 part
 failing NumbersDisagree p cert line fails part = fails.0 part
 
 one_line : (reason : Reason) (p : Poll) (cert : Cert) (line other : ℕ) → Fails reason p cert line → Fails reason p cert other → line ≡ other
@@ -89,29 +121,28 @@ one_line BadAlteration p cert line other a b =
     let f : a.0 ≡ b.0 = cc in
     omega (arith, a.2, b.2, ap place_of f)
 one_line ClaimFails p cert line other a b = omega (arith, a.1, b.1)
-one_line ShapeDiffers p cert line other a b =
-    omega (arith, a.2, b.2, one_place (IsShaped cert.rule p.c cert.reported (root_goals cert.rule p.c cert.reported)) (cert_visits p cert) a.0 b.0 a.1 b.1)
-one_line CutFails p cert line other a b =
-    omega (arith, a.2, b.2, one_place (Passes cert.rule p cert.reported (level_of (length p.ballots) cert.claim)) (cert_visits p cert) a.0 b.0 a.1 b.1)
+one_line ShapeDiffers p cert line other a b = omega (arith, a.2, b.2, one_place (Shaped p cert) (cert_visits p cert) a.0 b.0 a.1 b.1)
+one_line CutFails p cert line other a b = omega (arith, a.2, b.2, one_place (Passing p cert) (cert_visits p cert) a.0 b.0 a.1 b.1)
 one_line NumbersDisagree p cert line other a b = omega (arith, a.1, b.1)
 
 -- ---- one verdict
 
-earlier : (p : Poll) (cert : Cert) (reason other : Reason) (line at : ℕ) → IsRefusal p cert reason line → IsRefusal p cert other at → number_of reason < number_of other → ⊥
-earlier p cert reason other line at first second lt = failing reason p cert line first.fails (subst (λ r. Part r p cert) (reason_back reason) (part_before (number_of reason) (number_of other) p cert lt second.before))
+no_earlier : (p : Poll) (cert : Cert) (reason other : Reason) (line at : ℕ) → IsRefusal p cert reason line → IsRefusal p cert other at → reason_number reason < reason_number other → ⊥
+no_earlier p cert reason other line at first second lt = failing reason p cert line first.fails (part_before p cert reason other lt second.before)
 
-same_refusal : (p : Poll) (cert : Cert) (reason other : Reason) (line at : ℕ) → IsRefusal p cert reason line → IsRefusal p cert other at → number_of reason ≡ number_of other → No reason line ≡ No other at
+same_refusal : (p : Poll) (cert : Cert) (reason other : Reason) (line at : ℕ) → IsRefusal p cert reason line → IsRefusal p cert other at → reason_number reason ≡ reason_number other
+    → No reason line ≡ No other at
 same_refusal p cert reason other line at first second same =
-    let e : other ≡ reason = sym (reason_back other) ∙ ap reason_at (sym same) ∙ reason_back reason in
+    let e : other ≡ reason = one_number reason other same in
     let fails : Fails reason p cert at = subst (λ r. Fails r p cert at) e second.fails in
     let f = one_line reason p cert line at first.fails fails in
     cc
 
 one_refusal : (p : Poll) (cert : Cert) (reason other : Reason) (line at : ℕ) → IsRefusal p cert reason line → IsRefusal p cert other at → No reason line ≡ No other at
-one_refusal p cert reason other line at first second = elim (cases_lt (number_of reason) (number_of other)) [
-  | inl below ↦ absurd (earlier p cert reason other line at first second below)
-  | inr above ↦ elim (cases_lt (number_of other) (number_of reason)) [
-    | inl below ↦ absurd (earlier p cert other reason at line second first below)
+one_refusal p cert reason other line at first second = elim (cases_lt (reason_number reason) (reason_number other)) [
+  | inl below ↦ absurd (no_earlier p cert reason other line at first second below)
+  | inr above ↦ elim (cases_lt (reason_number other) (reason_number reason)) [
+    | inl below ↦ absurd (no_earlier p cert other reason at line second first below)
     | inr over ↦ same_refusal p cert reason other line at first second (omega arith)
   ]
 ]

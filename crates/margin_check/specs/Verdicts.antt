@@ -1,8 +1,8 @@
 -- The verdict on a certificate: valid, or the first part of validity that fails, with its line.
-use Rattle.std.specs.Prelude.{◌≡◌, ℕ, zero, suc, ◌+◌, List, [], ◌∷◌, codes, length, slice_index_or, Some}
+use Rattle.std.specs.Prelude.{◌≡◌, ℕ, zero, suc, ◌+◌, ◌==◌, List, [], ◌∷◌, codes, length, Some}
+use Rattle.std.specs.List.{before_first}
 use Rattle.ballot_form.specs.Alterations.{IsAlteration}
 use Rattle.ballot_form.specs.Ballots.{Poll}
-use Rattle.ballot_form.specs.declared.outcome.Outcome.{Outcome}
 use Rattle.ballot_form.specs.declared.rule.Rule.{Rule}
 use Rattle.ballot_form.specs.declared.rule.Rule.TheVariants.{Plurality}
 use Rattle.alteration_model.specs.Faults.{IsFirstFault, pairs_of}
@@ -11,7 +11,7 @@ use Rattle.alteration_model.specs.declared.faults.AlterFault.TheVariants.{Number
 use Rattle.goal_rows.specs.Goals.{root_goals}
 use Rattle.goal_rows.specs.Outcomes.{IsReported}
 use Rattle.goal_rows.specs.Races.{IsRace}
-use Rattle.goal_rows.specs.declared.goals.Goal.{Goal}
+use Rattle.goal_rows.specs.declared.parts.Race.{Race}
 use Rattle.cert_text.specs.declared.cert.Cert.{Cert}
 use Rattle.cert_text.specs.declared.cert.Claim.{Claim}
 use Rattle.cert_text.specs.declared.cert.Claim.TheVariants.{Margin, Fixed, Bounds}
@@ -20,7 +20,7 @@ use Rattle.margin_check.specs.declared.verdict.Reason.TheVariants.{NotBuilt, Hea
 use Rattle.margin_check.specs.declared.verdict.Verdict.{Verdict}
 use Rattle.margin_check.specs.declared.verdict.Verdict.TheVariants.{Valid, No}
 use Rattle.margin_check.specs.Proving.{IsShaped, Passes}
-use Rattle.margin_check.specs.Validity.{HasCuts, HasOrder, HasShape, HasSizes, IsTurned, IsValidCert, cert_visits, level_of}
+use Rattle.margin_check.specs.Validity.{HasCuts, HasOrder, HasShape, HasSizes, IsTurned, IsValidCert, cert_visits, election_by, level_of}
 
 -- the first item that hasn't the property stands at this place
 abbrev pub IsFirstWithout : {X : Type 0} → (X → Type 0) → List X → ℕ → Type 0
@@ -29,30 +29,35 @@ IsFirstWithout P (x ∷ xs) zero = P x → ⊥
 IsFirstWithout P (x ∷ xs) (suc place) = P x × IsFirstWithout P xs place
 
 -- the number of a reason
-abbrev pub number_of : Reason → ℕ
-number_of NotBuilt = 0
-number_of HeadDiffers = 1
-number_of ReportedDiffers = 2
-number_of BadAlteration = 3
-number_of ClaimFails = 4
-number_of ShapeDiffers = 5
-number_of CutFails = 6
-number_of NumbersDisagree = 7
+abbrev pub reason_number : Reason → ℕ
+reason_number NotBuilt = 0
+reason_number HeadDiffers = 1
+reason_number ReportedDiffers = 2
+reason_number BadAlteration = 3
+reason_number ClaimFails = 4
+reason_number ShapeDiffers = 5
+reason_number CutFails = 6
+reason_number NumbersDisagree = 7
 
 -- the name of a reason
-abbrev pub name_of : Reason → List ℕ
-name_of NotBuilt = codes "NotBuilt"
-name_of HeadDiffers = codes "HeadDiffers"
-name_of ReportedDiffers = codes "ReportedDiffers"
-name_of BadAlteration = codes "BadAlteration"
-name_of ClaimFails = codes "ClaimFails"
-name_of ShapeDiffers = codes "ShapeDiffers"
-name_of CutFails = codes "CutFails"
-name_of NumbersDisagree = codes "NumbersDisagree"
+abbrev pub reason_name : Reason → List ℕ
+reason_name NotBuilt = codes "NotBuilt"
+reason_name HeadDiffers = codes "HeadDiffers"
+reason_name ReportedDiffers = codes "ReportedDiffers"
+reason_name BadAlteration = codes "BadAlteration"
+reason_name ClaimFails = codes "ClaimFails"
+reason_name ShapeDiffers = codes "ShapeDiffers"
+reason_name CutFails = codes "CutFails"
+reason_name NumbersDisagree = codes "NumbersDisagree"
+
+-- certificates of this rule are judged: so far those of plurality
+abbrev pub IsJudged : Rule → Type 0
+IsJudged Plurality = Unit {0}
+IsJudged rule = ⊥
 
 -- the part of validity that fails by a reason
 abbrev pub Part : Reason → Poll → Cert → Type 0
-Part NotBuilt p cert = cert.rule ≡ Plurality
+Part NotBuilt p cert = IsJudged cert.rule
 Part HeadDiffers p cert = HasSizes p cert
 Part ReportedDiffers p cert = IsReported cert.rule p cert.reported
 Part BadAlteration p cert = IsAlteration p (pairs_of cert.puts)
@@ -61,17 +66,18 @@ Part ShapeDiffers p cert = HasShape p cert
 Part CutFails p cert = HasCuts p cert
 Part NumbersDisagree p cert = HasOrder cert.claim
 
--- the reasons in the order in which their parts are judged; the number of a reason is its place here
+-- the reasons in the order in which their parts are judged
 abbrev pub reasons : List Reason
 reasons = NotBuilt ∷ HeadDiffers ∷ ReportedDiffers ∷ BadAlteration ∷ ClaimFails ∷ ShapeDiffers ∷ CutFails ∷ NumbersDisagree ∷ []
 
-abbrev pub reason_at : ℕ → Reason
-reason_at n = slice_index_or reasons n NumbersDisagree
+-- those that come before this one
+abbrev pub earlier : Reason → List Reason
+earlier reason = before_first (λ other. reason_number other == reason_number reason) reasons
 
--- the first n parts hold
-abbrev pub FirstParts : ℕ → Poll → Cert → Type 0
-FirstParts zero p cert = Unit {0}
-FirstParts (suc n) p cert = FirstParts n p cert × Part (reason_at n) p cert
+-- the parts of these reasons hold
+abbrev pub PartsHold : List Reason → Poll → Cert → Type 0
+PartsHold [] p cert = Unit {0}
+PartsHold (reason ∷ reasons) p cert = Part reason p cert × PartsHold reasons p cert
 
 -- the place of a bad replacement
 abbrev pub place_of : AlterFault → ℕ
@@ -92,32 +98,33 @@ node_line cert number = tree_line (length cert.puts) cert.claim + number
 
 -- a part of validity fails, in this line
 abbrev pub Fails : Reason → Poll → Cert → ℕ → Type 0
-Fails NotBuilt p cert line = (cert.rule ≡ Plurality → ⊥) × (line ≡ 2)
+Fails NotBuilt p cert line = (IsJudged cert.rule → ⊥) × (line ≡ 2)
 Fails HeadDiffers p cert line = (HasSizes p cert → ⊥) × (line ≡ 3)
 Fails ReportedDiffers p cert line = (IsReported cert.rule p cert.reported → ⊥) × (line ≡ 4)
 Fails BadAlteration p cert line = (fault : AlterFault) × IsFirstFault p cert.puts (Some fault) × (line ≡ 7 + place_of fault)
 Fails ClaimFails p cert line = (IsTurned p cert → ⊥) × (line ≡ 6)
 Fails ShapeDiffers p cert line = (number : ℕ)
-    × IsFirstWithout (IsShaped cert.rule p.c cert.reported (root_goals cert.rule p.c cert.reported)) (cert_visits p cert) number
+    × IsFirstWithout (λ visit. IsShaped (election_by p cert) visit.node visit.tree) (cert_visits p cert) number
     × (line ≡ node_line cert number)
 Fails CutFails p cert line = (number : ℕ)
-    × IsFirstWithout (Passes cert.rule p cert.reported (level_of (length p.ballots) cert.claim)) (cert_visits p cert) number
+    × IsFirstWithout (λ visit. Passes (election_by p cert) (level_of (length p.ballots) cert.claim) visit.node visit.tree)
+    (cert_visits p cert) number
     × (line ≡ node_line cert number)
 Fails NumbersDisagree p cert line = (HasOrder cert.claim → ⊥) × (line ≡ 5)
 
 -- the certificate is refused for this reason: the parts before hold, and this one fails, in this line
 pub record IsRefusal (p : Poll) (cert : Cert) (reason : Reason) (line : ℕ) : Type 0 where
-  pub before : FirstParts (number_of reason) p cert
+  pub before : PartsHold (earlier reason) p cert
   pub fails : Fails reason p cert line
 
 -- the verdict on a certificate
 abbrev pub Judges : Poll → Cert → Verdict → Type 0
-Judges p cert Valid = (cert.rule ≡ Plurality) × IsValidCert p cert
+Judges p cert Valid = IsJudged cert.rule × IsValidCert p cert
 Judges p cert (No reason line) = IsRefusal p cert reason line
 
--- a race of these ballots under the certificate's rule, plurality, with its reported outcome
-pub record IsJudgedHere (rule : Rule) (p : Poll) (kinds : List (List ℕ × ℕ)) (reported : Outcome) (roots : List Goal) (cert : Cert) : Type 0 where
-  pub plurality : rule ≡ Plurality
-  pub race : IsRace rule p kinds reported roots
-  pub same_rule : rule ≡ cert.rule
-  pub same_outcome : reported ≡ cert.reported
+-- the race is that of the certificate's rule, with its reported outcome and the root goals of that
+pub record IsRaceOf (race : Race) (cert : Cert) : Type 0 where
+  pub race : IsRace race
+  pub rule : race.rule ≡ cert.rule
+  pub outcome : race.reported ≡ cert.reported
+  pub roots : race.roots ≡ root_goals race.rule race.roll.now.c race.reported

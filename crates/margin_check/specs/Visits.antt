@@ -1,17 +1,21 @@
--- The nodes of a tree in preorder, each with its goal and its limits.
+-- The nodes of a tree in preorder, each with what it is to rule out.
 use Rattle.std.specs.Prelude.{ℕ, ◌+◌, List, [], ◌∷◌, ◌++◌, Option, Some, None, true, false}
 use Rattle.row_program.specs.declared.Feature.{Feature}
 use Rattle.row_program.specs.declared.Limit.{Limit}
 use Rattle.bound_tree.specs.Plain.{Plain, Kids, Split, Branch, Cut}
-use Rattle.bound_tree.specs.Plain as tree
+use Rattle.bound_tree.specs.Plain as trees
+use Rattle.goal_rows.specs.Elections.{Election, Node}
 use Rattle.goal_rows.specs.Goals.{cover_of}
+use Rattle.goal_rows.specs.Nodes.{with_limit, without_limits}
 use Rattle.goal_rows.specs.declared.goals.Goal.{Goal}
 
--- a goal and limits, and the tree that is to rule them out
+-- a node, and the tree that is to rule it out
 pub record Visit : Type 0 where
-  pub goal : Goal
-  pub limits : List Limit
-  pub node : Plain
+  pub node : Node
+  pub tree : Plain
+
+abbrev pub visit_of : Node → Plain → Visit
+visit_of node tree = record { node = node; tree = tree }
 
 -- the halves of a branch: the feature is at most the value, or at least one more
 abbrev pub low_limit : Feature → ℕ → Limit
@@ -28,14 +32,14 @@ kid_goals (Some goals) = goals
 -- the nodes in preorder: a split's kids have the goals of the cover in order, without limits, and a branch's halves have its goal and
 -- its limits with one more at the end
 abbrev mutual
-  pub visits : List Goal → Goal → List Limit → Plain → List Visit
-  visits roots goal limits (Split kids) =
-      record { goal = goal; limits = limits; node = Split kids } ∷ visits_among roots (kid_goals (cover_of roots goal)) kids
-  visits roots goal limits (Branch feature value low high) = record { goal = goal; limits = limits; node = Branch feature value low high }
-      ∷ (visits roots goal (limits ++ low_limit feature value ∷ []) low ++ visits roots goal (limits ++ high_limit feature value ∷ []) high)
-  visits roots goal limits (Cut multipliers) = record { goal = goal; limits = limits; node = Cut multipliers } ∷ []
+  pub visits : Election → Node → Plain → List Visit
+  visits e node (Split kids) =
+      visit_of node (Split kids) ∷ visits_among e (kid_goals (cover_of e node.goal)) kids
+  visits e node (Branch feature value low high) = visit_of node (Branch feature value low high)
+      ∷ (visits e (with_limit node (low_limit feature value)) low ++ visits e (with_limit node (high_limit feature value)) high)
+  visits e node (Cut multipliers) = visit_of node (Cut multipliers) ∷ []
 
-  pub visits_among : List Goal → List Goal → Kids → List Visit
-  visits_among roots goals tree.None = []
-  visits_among roots [] (tree.More kid kids) = []
-  visits_among roots (goal ∷ goals) (tree.More kid kids) = visits roots goal [] kid ++ visits_among roots goals kids
+  pub visits_among : Election → List Goal → Kids → List Visit
+  visits_among e goals trees.None = []
+  visits_among e [] (trees.More kid kids) = []
+  visits_among e (goal ∷ goals) (trees.More kid kids) = visits e (without_limits goal) kid ++ visits_among e goals kids

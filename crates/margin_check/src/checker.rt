@@ -1,10 +1,9 @@
 // The verdict on a certificate.
 ghost use Rattle.std.specs.Prelude.{◌≡◌, ◌↔◌, ℕ, IfOk};
-ghost use Rattle.ballot_form.specs.declared.rule.Rule.TheVariants.{Plurality};
 ghost use Rattle.cert_text.specs.CertText.{IsPrintable};
 ghost use Rattle.margin_check.specs.Meanings.{ClaimIsTrue};
 ghost use Rattle.margin_check.specs.Validity.{IsValidCert};
-ghost use Rattle.margin_check.specs.Verdicts.{IsRefusal};
+ghost use Rattle.margin_check.specs.Verdicts.{IsJudged, IsRefusal};
 ghost use Rattle.margin_check.specs.declared.verdict.Reason.{Reason as AReason};
 ghost use Rattle.margin_check.specs.declared.verdict.Verdict.TheVariants.{No, Valid};
 
@@ -19,9 +18,11 @@ use std::alloc::Global;
 /// so; otherwise the first part that fails is told with its line, from 1.
 pub fn check(alloc: Global, contest: &Contest, cert: &Cert) -> Result<Verdict, Memory>
     requires printable { IsPrintable cert.now }
-    ensures valid { IfOk result (λ verdict. (verdict ≡ Valid) ↔ ((cert.now.rule ≡ Plurality) × IsValidCert contest.now.roll cert.now)) }
-    ensures refused { IfOk result (λ verdict. (reason : AReason) (line : ℕ) → (verdict ≡ No reason line) ↔ IsRefusal contest.now.roll cert.now reason line) }
+    ensures valid { IfOk result (λ verdict. (verdict ≡ Valid) ↔ (IsJudged cert.now.rule × IsValidCert contest.now.roll cert.now)) }
+    ensures refused { IfOk result (λ verdict. (reason : AReason) (line : ℕ) →
+        (verdict ≡ No reason line) ↔ IsRefusal contest.now.roll cert.now reason line) }
     ensures claim { IfOk result (λ verdict. verdict ≡ Valid → ClaimIsTrue contest.now.roll cert.now) }
 {
+    let _ = contest.roll.candidates();
     judge(alloc, &contest.roll, cert)
 }

@@ -21,5 +21,3 @@ pub use laws::{
 };
 pub use verdict::{Reason, Verdict};
 
-#[cfg(test)]
-mod tests;

@@ -1,6 +1,6 @@
 // Verdicts on certificates.
 ghost use Rattle.std.specs.Prelude.{◌≡◌};
-ghost use Rattle.margin_check.specs.Verdicts.{name_of, number_of};
+ghost use Rattle.margin_check.specs.Verdicts.{reason_name, reason_number};
 
 /// Why a certificate isn't valid: the first part that fails, in this order.
 #[derive(Clone, Copy, Debug, PartialEq, Eq)]
@@ -26,7 +26,7 @@ pub enum Reason {
 impl Reason {
     /// The number of the reason.
     pub fn number(self) -> u8
-        ensures { result ≡ number_of self }
+        ensures { result ≡ reason_number self }
     {
         match self {
             Reason::NotBuilt => 0,
@@ -42,7 +42,7 @@ impl Reason {
 
     /// The name of the reason.
     pub fn name(self) -> &'static str
-        ensures { result.now ≡ name_of self }
+        ensures { result.now ≡ reason_name self }
     {
         match self {
             Reason::NotBuilt => "NotBuilt",

@@ -1,22 +1,22 @@
 // Walks over the nodes of a tree.
-ghost use Rattle.std.specs.Prelude.{◌≡◌, ◌+◌, ◌<◌, ◌≤◌, ◌^◌, ◌↔◌, ℕ, [], All, IfOk, IsTrue, Some, length, option_map, map, sum_by};
-ghost use Rattle.ballot_form.specs.declared.outcome.Outcome.{Outcome as AnOutcome};
-ghost use Rattle.ballot_form.specs.declared.rule.Rule.{Rule as ARule};
-ghost use Rattle.ballot_form.specs.declared.rule.Rule.TheVariants.{Plurality};
+ghost use Rattle.std.specs.Prelude.{◌≡◌, ◌+◌, ◌++◌, ◌<◌, ◌≤◌, ◌^◌, ◌↔◌, [], All, IfOk, IsTrue, Some, length, option_map, map, sum_by};
 ghost use Rattle.bound_tree.specs.Nodes.{size};
 ghost use Rattle.bound_tree.specs.Plain.{kids_of, plain_of};
-ghost use Rattle.goal_rows.specs.Goals.{IsReached, cover_of, rows_of};
-ghost use Rattle.goal_rows.specs.Races.{IsRace};
+ghost use Rattle.goal_rows.specs.Elections.{Election};
+ghost use Rattle.goal_rows.specs.Goals.{IsReached, cover_of};
+ghost use Rattle.goal_rows.specs.Nodes.{AreLimits, IsFeatureOf, node_of, with_limit};
+ghost use Rattle.goal_rows.specs.Races.{IsGroundIn, IsRace, election_of};
 ghost use Rattle.dual_bound.specs.CutTest.{Cuts};
-ghost use Rattle.margin_check.specs.Proving.{IsShapedAt, PassesAt};
-ghost use Rattle.margin_check.specs.Visits.{visits, visits_among};
-ghost use Rattle.margin_check.specs.Walks.{Answers, AnswersAt, EndsAt};
+ghost use Rattle.margin_check.specs.Proving.{IsShaped, number_count};
+ghost use Rattle.margin_check.specs.Visits.{high_limit, low_limit, visit_of, visits, visits_among};
+ghost use Rattle.margin_check.specs.Walks.{EndsAt, Gives, IsKnown};
 
 use bound_tree::{Multipliers, Tree};
 use dual_bound::{Scratch, cuts};
-use goal_rows::parts::Race;
-use goal_rows::{Goal, cover, ground, kid_count};
+use goal_rows::parts::{Ground, Race};
+use goal_rows::{Goal, cover, ground, kid_count, row_count};
 use mov_base::Memory;
+use row_program::{Feature, Limit};
 use std::alloc::Global;
 
 /// What is asked of each node.
@@ -24,7 +24,7 @@ use std::alloc::Global;
 pub(crate) enum Asked {
     /// The shape that its goal asks for.
     Shape,
-    /// Beside the shape, that a cut passes the test at this number.
+    /// That a cut passes the test at this number. All nodes have their shapes.
     Cuts(u32),
 }
 
@@ -37,72 +37,95 @@ pub(crate) enum End {
     Stopped(u32),
 }
 
-/// Walks over the nodes of a tree, whose topmost node has this goal and this number.
+/// Walks over the nodes of a tree, whose topmost node has this number, the goal of this ground, and these limits. The limits are the
+/// same afterwards, unless memory ran out.
 #[cycle(walk)]
-#[tactic(auto, using(bound_tree::proofs::Shapes::size_Split, crate::proofs::Nodes::as_many_kids, crate::proofs::Nodes::has_cover, crate::proofs::Nodes::cover_reached, crate::proofs::Nodes::walk_over_cut, crate::proofs::Nodes::walk_stops))]
+#[tactic(auto, using(bound_tree::proofs::Shapes::size_Split, crate::proofs::Nodes::no_branch))]
 pub(crate) fn walk(
     alloc: Global,
     race: &Race<'_>,
     asked: Asked,
-    goal: &Goal,
+    start: &Ground,
+    limits: &mut Vec<Limit>,
     tree: &Tree,
     number: u32,
     scratch: &mut Scratch,
 ) -> Result<End, Memory>
-    requires plurality { race.now.rule ≡ Plurality }
-    requires race { IsRace race.now.rule race.now.roll.now race.now.kinds race.now.reported race.now.roots }
+    requires race { IsRace race.now }
+    requires start { IsGroundIn (election_of race.now) start.now }
+    requires limits { AreLimits (election_of race.now) (node_of start.now limits.old) }
     requires few { number + size (plain_of tree.now) < 2 ^ 32 }
-    requires reached { IsReached race.now.roots goal.now }
+    requires known { All (IsKnown (election_of race.now) asked)
+        (visits (election_of race.now) (node_of start.now limits.old) (plain_of tree.now)) }
     requires room { length race.now.kinds ≤ scratch.old }
     ensures room { scratch.new ≡ scratch.old }
-    ensures end { IfOk result (λ end. EndsAt (Answers race.now.rule race.now.roll.now race.now.reported race.now.roots asked) number
-        (visits race.now.roots goal.now [] (plain_of tree.now)) end) }
+    ensures limits { IfOk result (λ end. limits.new ≡ limits.old) }
+    ensures end { IfOk result (EndsAt (Gives (election_of race.now) asked) number
+        (visits (election_of race.now) (node_of start.now limits.old) (plain_of tree.now))) }
 {
-    if !answers(alloc, race, asked, goal, tree, scratch)? {
+    if !gives(race, asked, start, limits.as_slice(), tree, scratch) {
         return Ok(End::Stopped(number));
     }
     match tree {
-        Tree::Split(kids) => match cover(alloc, race, goal)? {
+        Tree::Split(kids) => match cover(alloc, race, &start.goal)? {
             Some(goals) => walk_among(
                 alloc,
                 race,
                 asked,
                 goals.as_slice(),
+                limits,
                 kids.as_slice(),
                 number + 1,
                 scratch,
             ),
             None => unreachable!(),
         },
-        Tree::Branch(_, _, _, _) => unreachable!(),
+        Tree::Branch(feature, value, low, high) => walk_halves(
+            alloc,
+            race,
+            asked,
+            start,
+            limits,
+            *feature,
+            *value,
+            low.get(),
+            high.get(),
+            number + 1,
+            scratch,
+        ),
         Tree::Cut(_) => Ok(End::Through(number + 1)),
     }
 }
 
-/// Walks over the nodes of trees, one after another, each with its goal.
+/// Walks over the nodes of trees, one after another, each with its goal and without limits.
 #[cycle(walk)]
 fn walk_among(
     alloc: Global,
     race: &Race<'_>,
     asked: Asked,
     goals: &[Goal],
+    limits: &mut Vec<Limit>,
     kids: &[Tree],
     number: u32,
     scratch: &mut Scratch,
 ) -> Result<End, Memory>
-    requires plurality { race.now.rule ≡ Plurality }
-    requires race { IsRace race.now.rule race.now.roll.now race.now.kinds race.now.reported race.now.roots }
+    requires race { IsRace race.now }
     requires same { length goals.now ≡ length kids.now }
+    requires limits { limits.old ≡ [] }
+    requires reached { All (IsReached (election_of race.now)) goals.now }
     requires few { number + sum_by (λ kid. size (plain_of kid)) kids.now < 2 ^ 32 }
-    requires reached { All (IsReached race.now.roots) goals.now }
+    requires known { All (IsKnown (election_of race.now) asked)
+        (visits_among (election_of race.now) goals.now (kids_of (map plain_of kids.now))) }
     requires room { length race.now.kinds ≤ scratch.old }
     ensures room { scratch.new ≡ scratch.old }
-    ensures end { IfOk result (λ end. EndsAt (Answers race.now.rule race.now.roll.now race.now.reported race.now.roots asked) number
-        (visits_among race.now.roots goals.now (kids_of (map plain_of kids.now))) end) }
+    ensures limits { IfOk result (λ end. limits.new ≡ limits.old) }
+    ensures end { IfOk result (EndsAt (Gives (election_of race.now) asked) number
+        (visits_among (election_of race.now) goals.now (kids_of (map plain_of kids.now)))) }
 {
     let mut next = number;
     for (i, kid) in kids.iter().enumerate() {
-        match walk(alloc, race, asked, &goals[i], kid, next, scratch)? {
+        let start = ground(alloc, race, &goals[i])?;
+        match walk(alloc, race, asked, &start, limits, kid, next, scratch)? {
             End::Through(behind) => next = behind,
             End::Stopped(at) => return Ok(End::Stopped(at)),
         }
@@ -110,94 +133,153 @@ fn walk_among(
     Ok(End::Through(next))
 }
 
-/// Whether a node without limits gives what is asked.
-fn answers(
+/// Walks over the nodes of the halves of a branch, the low and the high one, each with one limit more.
+#[cycle(walk)]
+fn walk_halves(
     alloc: Global,
     race: &Race<'_>,
     asked: Asked,
-    goal: &Goal,
-    tree: &Tree,
+    start: &Ground,
+    limits: &mut Vec<Limit>,
+    feature: Feature,
+    value: u32,
+    low: &Tree,
+    high: &Tree,
+    number: u32,
     scratch: &mut Scratch,
-) -> Result<bool, Memory>
-    requires plurality { race.now.rule ≡ Plurality }
-    requires race { IsRace race.now.rule race.now.roll.now race.now.kinds race.now.reported race.now.roots }
-    requires reached { IsReached race.now.roots goal.now }
+) -> Result<End, Memory>
+    requires race { IsRace race.now }
+    requires start { IsGroundIn (election_of race.now) start.now }
+    requires low { AreLimits (election_of race.now) (with_limit (node_of start.now limits.old) (low_limit feature value)) }
+    requires high { AreLimits (election_of race.now) (with_limit (node_of start.now limits.old) (high_limit feature value)) }
+    requires few { number + size (plain_of low.now) + size (plain_of high.now) < 2 ^ 32 }
+    requires low_known { All (IsKnown (election_of race.now) asked) (visits (election_of race.now)
+        (with_limit (node_of start.now limits.old) (low_limit feature value)) (plain_of low.now)) }
+    requires high_known { All (IsKnown (election_of race.now) asked) (visits (election_of race.now)
+        (with_limit (node_of start.now limits.old) (high_limit feature value)) (plain_of high.now)) }
     requires room { length race.now.kinds ≤ scratch.old }
-    ensures value { IfOk result (λ answer. IsTrue answer ↔ AnswersAt race.now.rule race.now.roll.now race.now.reported race.now.roots asked goal.now [] (plain_of tree.now)) }
     ensures room { scratch.new ≡ scratch.old }
+    ensures limits { IfOk result (λ end. limits.new ≡ limits.old) }
+    ensures end { IfOk result (EndsAt (Gives (election_of race.now) asked) number
+        (visits (election_of race.now) (with_limit (node_of start.now limits.old) (low_limit feature value)) (plain_of low.now)
+        ++ visits (election_of race.now) (with_limit (node_of start.now limits.old) (high_limit feature value)) (plain_of high.now))) }
 {
-    match asked {
-        Asked::Shape => Ok(is_shaped(race, goal, tree)),
-        Asked::Cuts(t) => passes(alloc, race, t, goal, tree, scratch),
+    let at_most = Limit {
+        feature,
+        at_most: true,
+        value,
+    };
+    let at_least = Limit {
+        feature,
+        at_most: false,
+        value: value + 1,
+    };
+    match walk_half(alloc, race, asked, start, limits, at_most, low, number, scratch)? {
+        End::Through(behind) => walk_half(
+            alloc, race, asked, start, limits, at_least, high, behind, scratch,
+        ),
+        End::Stopped(at) => Ok(End::Stopped(at)),
     }
 }
 
-/// Whether a node without limits has its shape, and the cut test passes where the node is a cut.
-#[tactic(auto, using(crate::proofs::Nodes::shaped_Cut, crate::proofs::Passing::passing_Cut, crate::proofs::Passing::passing_Split, crate::proofs::Passing::passing_Branch))]
+/// Walks over the nodes of a half of a branch, which has one limit more.
+#[cycle(walk)]
+fn walk_half(
+    alloc: Global,
+    race: &Race<'_>,
+    asked: Asked,
+    start: &Ground,
+    limits: &mut Vec<Limit>,
+    limit: Limit,
+    half: &Tree,
+    number: u32,
+    scratch: &mut Scratch,
+) -> Result<End, Memory>
+    requires race { IsRace race.now }
+    requires start { IsGroundIn (election_of race.now) start.now }
+    requires limits { AreLimits (election_of race.now) (with_limit (node_of start.now limits.old) limit) }
+    requires few { number + size (plain_of half.now) < 2 ^ 32 }
+    requires known { All (IsKnown (election_of race.now) asked)
+        (visits (election_of race.now) (with_limit (node_of start.now limits.old) limit) (plain_of half.now)) }
+    requires room { length race.now.kinds ≤ scratch.old }
+    ensures room { scratch.new ≡ scratch.old }
+    ensures limits { IfOk result (λ end. limits.new ≡ limits.old) }
+    ensures end { IfOk result (EndsAt (Gives (election_of race.now) asked) number
+        (visits (election_of race.now) (with_limit (node_of start.now limits.old) limit) (plain_of half.now))) }
+{
+    limits.push(limit)?;
+    let end = walk(alloc, race, asked, start, limits, half, number, scratch)?;
+    let _ = limits.pop();
+    Ok(end)
+}
+
+/// Whether a node gives what is asked.
+#[tactic(auto, using(crate::proofs::Passing::passes_Split, crate::proofs::Passing::passes_Branch))]
+fn gives(
+    race: &Race<'_>,
+    asked: Asked,
+    start: &Ground,
+    limits: &[Limit],
+    tree: &Tree,
+    scratch: &mut Scratch,
+) -> bool
+    requires race { IsRace race.now }
+    requires start { IsGroundIn (election_of race.now) start.now }
+    requires limits { AreLimits (election_of race.now) (node_of start.now limits.now) }
+    requires known { IsKnown (election_of race.now) asked (visit_of (node_of start.now limits.now) (plain_of tree.now)) }
+    requires room { length race.now.kinds ≤ scratch.old }
+    ensures room { scratch.new ≡ scratch.old }
+    ensures value { IsTrue result ↔ Gives (election_of race.now) asked (visit_of (node_of start.now limits.now) (plain_of tree.now)) }
+{
+    match (asked, tree) {
+        (Asked::Shape, _) => is_shaped(race, start, limits, tree),
+        (Asked::Cuts(_), Tree::Split(_)) => true,
+        (Asked::Cuts(_), Tree::Branch(_, _, _, _)) => true,
+        (Asked::Cuts(t), Tree::Cut(multipliers)) => {
+            passes(race, t, start, limits, multipliers, scratch)
+        }
+    }
+}
+
+/// Whether a cut passes the test at `t`, or at one more than there are ballots where `t` is greater.
 fn passes(
-    alloc: Global,
     race: &Race<'_>,
     t: u32,
-    goal: &Goal,
-    tree: &Tree,
-    scratch: &mut Scratch,
-) -> Result<bool, Memory>
-    requires plurality { race.now.rule ≡ Plurality }
-    requires race { IsRace race.now.rule race.now.roll.now race.now.kinds race.now.reported race.now.roots }
-    requires reached { IsReached race.now.roots goal.now }
-    requires room { length race.now.kinds ≤ scratch.old }
-    ensures value { IfOk result (λ answer. IsTrue answer ↔ (IsShapedAt race.now.rule race.now.roll.now.c race.now.reported race.now.roots goal.now [] (plain_of tree.now)
-        × PassesAt race.now.rule race.now.roll.now race.now.reported t goal.now [] (plain_of tree.now))) }
-    ensures room { scratch.new ≡ scratch.old }
-{
-    if !is_shaped(race, goal, tree) {
-        return Ok(false);
-    }
-    match tree {
-        Tree::Split(_) => Ok(true),
-        Tree::Branch(_, _, _, _) => Ok(true),
-        Tree::Cut(multipliers) => cut_passes(alloc, race, t, goal, multipliers, scratch),
-    }
-}
-
-/// Whether a cut of a node without limits passes the test at `t`, or at one more than there are ballots where `t` is greater.
-fn cut_passes(
-    alloc: Global,
-    race: &Race<'_>,
-    t: u32,
-    goal: &Goal,
+    start: &Ground,
+    limits: &[Limit],
     multipliers: &Multipliers,
     scratch: &mut Scratch,
-) -> Result<bool, Memory>
-    requires plurality { race.now.rule ≡ Plurality }
-    requires race { IsRace race.now.rule race.now.roll.now race.now.kinds race.now.reported race.now.roots }
-    requires reached { IsReached race.now.roots goal.now }
-    requires count { length multipliers.now ≡ length (rows_of race.now.rule race.now.roll.now.c race.now.reported goal.now) }
+) -> bool
+    requires race { IsRace race.now }
+    requires start { IsGroundIn (election_of race.now) start.now }
+    requires limits { AreLimits (election_of race.now) (node_of start.now limits.now) }
+    requires count { length multipliers.now ≡ number_count (election_of race.now) (node_of start.now limits.now) }
     requires room { length race.now.kinds ≤ scratch.old }
-    ensures value { IfOk result (λ answer. IsTrue answer ↔ Cuts race.now.rule race.now.roll.now race.now.reported goal.now [] multipliers.now t) }
     ensures room { scratch.new ≡ scratch.old }
+    ensures value { IsTrue result ↔ Cuts (election_of race.now) (node_of start.now limits.now) multipliers.now t }
 {
-    let node = ground(alloc, race, goal)?;
-    let _ = race.roll.candidates();
-    let within = t.min(node.ballots + 1);
-    Ok(cuts(&node, &[], multipliers.as_slice(), within, scratch))
+    let within = t.min(start.ballots + 1);
+    cuts(start, limits, multipliers.as_slice(), within, scratch)
 }
 
-/// Whether a node without limits has the shape that its goal asks for.
+/// Whether a node has the shape that its goal asks for.
 #[tactic(auto, using(crate::proofs::Nodes::shaped_Split, crate::proofs::Nodes::shaped_Cut, crate::proofs::Nodes::shaped_Branch))]
-fn is_shaped(race: &Race<'_>, goal: &Goal, tree: &Tree) -> bool
-    ensures { IsTrue result ↔ IsShapedAt race.now.rule race.now.roll.now.c race.now.reported race.now.roots goal.now [] (plain_of tree.now) }
+fn is_shaped(race: &Race<'_>, start: &Ground, limits: &[Limit], tree: &Tree) -> bool
+    ensures { IsTrue result ↔ IsShaped (election_of race.now) (node_of start.now limits.now) (plain_of tree.now) }
 {
     match tree {
-        Tree::Split(kids) => has_kids(race, goal, kids.len()),
-        Tree::Branch(_, _, _, _) => false,
-        Tree::Cut(multipliers) => multipliers.len() == row_count(goal),
+        Tree::Split(kids) => limits.is_empty() && has_kids(race, &start.goal, kids.len()),
+        Tree::Branch(feature, _, _, _) => is_feature(&start.goal, *feature),
+        Tree::Cut(multipliers) => {
+            multipliers.len() >= limits.len()
+                && multipliers.len() - limits.len() == row_count(race, &start.goal)
+        }
     }
 }
 
 /// Whether the goal has a cover of so many goals.
 fn has_kids(race: &Race<'_>, goal: &Goal, count: usize) -> bool
-    ensures { IsTrue result ↔ (option_map length (cover_of race.now.roots goal.now) ≡ Some count) }
+    ensures { IsTrue result ↔ (option_map length (cover_of (election_of race.now) goal.now) ≡ Some count) }
 {
     match kid_count(race, goal) {
         Some(wanted) => count == wanted,
@@ -205,12 +287,13 @@ fn has_kids(race: &Race<'_>, goal: &Goal, count: usize) -> bool
     }
 }
 
-/// How many rows a goal has, under any rule.
-fn row_count(goal: &Goal) -> usize
-    ensures { (rule : ARule) (c : ℕ) (reported : AnOutcome) → result ≡ length (rows_of rule c reported goal.now) }
+/// Whether the feature belongs to the goal.
+fn is_feature(goal: &Goal, feature: Feature) -> bool
+    ensures { (e : Election) → IsTrue result ↔ IsFeatureOf e goal.now feature }
 {
+    let _ = feature;
     match goal {
-        Goal::Root => 0,
-        Goal::Pair(_, _) => 1,
+        Goal::Root => false,
+        Goal::Pair(_, _) => false,
     }
 }
