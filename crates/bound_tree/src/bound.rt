@@ -1,5 +1,5 @@
 // Trees of few nodes and a bounded depth.
-ghost use Rattle.std.specs.Prelude.{◌≡◌, ◌+◌, ◌<◌, ◌≤◌, ◌↔◌, IfOk, IsOk, IsErrOf, IsTrue, OnOk, OnErr, [], ◌∷◌, ◌++◌, length, map, take, drop, max, min};
+ghost use Rattle.std.specs.Prelude.{◌≡◌, ◌+◌, ◌<◌, ◌≤◌, ◌↔◌, IfOk, IsOk, IsErrOf, IsTrue, OnOk, OnErr, [], ◌∷◌, ◌++◌, length, map, max, min};
 ghost use Rattle.bound_tree.specs.Plain.{plain_of, Split, Branch, Cut};
 ghost use Rattle.bound_tree.specs.Nodes.{size, height, cut_count};
 ghost use Rattle.bound_tree.specs.Places.{IsNode, IsCut, IsAtDepth};

@@ -40,7 +40,6 @@ fn numbers(tree: &BoundTree, node: u32) -> Option<&[u64]> {
 }
 
 /// Whether the node is a cut.
-#[tactic(auto, using(bound_tree::proofs::Shapes::plain_Cut))]
 fn is_cut(tree: &BoundTree, node: u32) -> bool
     ensures { IsTrue result → IsCut tree.now node }
 {

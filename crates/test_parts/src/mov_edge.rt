@@ -69,6 +69,9 @@ fn files_and_streams_of_the_system(rt: HostRuntime) -> Result<(), Fail> {
         let read = read_whole(alloc, &mut files, name, 39_999);
         assert_eq!(rt; read.err(), Some(fault), "at {name}");
     }
+    fs::remove_file(&rt, "votes")?;
+    fs::remove_file(&rt, "long")?;
+
     let mut output = StdSink::output(rt.stdout());
     assert_eq!(rt; write_whole(&mut output, BALLOTS), Ok(()));
     let mut error = StdSink::error(rt.stderr());
