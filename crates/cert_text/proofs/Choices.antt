@@ -5,8 +5,8 @@ use Rattle.std.specs.Str.{bytes_eq}
 use Rattle.std.specs.List.{AllByRecursion}
 use Rattle.std.proofs.lemmas.List.Elements.{All-nil, All-cons, All-head, All-tail}
 use Rattle.std.proofs.lemmas.Slice.Eq.{bytes_eq-Decides}
-use Rattle.text_lines.specs.declared.numbers.LineFault.{LineFault}
-use Rattle.text_lines.specs.declared.numbers.LineFault.TheVariants.{BadLine}
+use Rattle.text_lines.specs.declared.fault.LineFault.{LineFault}
+use Rattle.text_lines.specs.declared.fault.LineFault.TheVariants.{BadLine}
 use Rattle.text_lines.specs.Forms.{made, alone, after}
 use Rattle.text_lines.proofs.Many.{IsWithin, same_fields}
 use Rattle.text_lines.proofs.Joining.{ArePlain, number_plain}

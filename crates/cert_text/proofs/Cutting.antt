@@ -2,8 +2,8 @@
 use Rattle.std.proofs.Common.{◌≡◌, ℕ, ◌+◌, Bool, true, false, cond, eqb, List, [], ◌∷◌, ◌++◌, length, take, drop, Option, Some, None, Result, Ok, Err, refl, sym, ap, ◌∙◌, subst, append_assoc}
 use Rattle.std.specs.List.{position}
 use Rattle.std.proofs.lemmas.List.{take_at, drop_at, length-append}
-use Rattle.text_lines.specs.declared.numbers.LineFault.{LineFault}
-use Rattle.text_lines.specs.declared.numbers.LineFault.TheVariants.{BadLine, BadNumber}
+use Rattle.text_lines.specs.declared.fault.LineFault.{LineFault}
+use Rattle.text_lines.specs.declared.fault.LineFault.TheVariants.{BadLine, BadNumber}
 use Rattle.text_lines.proofs.Joining.{lacks, line_end_at, line_end_is}
 use Rattle.cert_text.specs.declared.fault.CertFault.{CertFault}
 use Rattle.cert_text.specs.Reading.{◌>>=◌, Place, cut_at, line_at, at_line}

@@ -5,8 +5,8 @@ use Rattle.bound_tree.specs.Plain.{Plain, Split, Branch, kids_of}
 use Rattle.bound_tree.specs.Lines.{Line, SplitInto, BranchBy, CutWith}
 use Rattle.ballot_form.specs.declared.rule.Rule.{Rule}
 use Rattle.ballot_form.specs.declared.outcome.Outcome.{Outcome}
-use Rattle.text_lines.specs.declared.numbers.LineFault.{LineFault}
-use Rattle.text_lines.specs.declared.numbers.LineFault.TheVariants as line
+use Rattle.text_lines.specs.declared.fault.LineFault.{LineFault}
+use Rattle.text_lines.specs.declared.fault.LineFault.TheVariants as line
 use Rattle.text_lines.specs.Words.{fields_of}
 use Rattle.cert_text.specs.declared.fault.CertFault.{CertFault}
 use Rattle.cert_text.specs.declared.fault.CertKind.TheVariants.{Memory, TooDeep, TreeEnds, TooManyNodes, Tail}

@@ -4,7 +4,7 @@ use Rattle.std.specs.List.{flat_map, AllByRecursion, position}
 use Rattle.std.proofs.lemmas.List.Concat.{flat_map-cons}
 use Rattle.std.proofs.lemmas.List.Splits.{join_with_byte-slice_split}
 use Rattle.text_lines.specs.Words.{fields_of, line_of}
-use Rattle.text_lines.specs.declared.numbers.LineFault.{LineFault}
+use Rattle.text_lines.specs.declared.fault.LineFault.{LineFault}
 use Rattle.text_lines.proofs.Joining.{ArePlain, lacks, line_lacks, fields_again}
 use Rattle.cert_text.specs.Reading.{◌>>=◌, Place, line_at, at_line, form_at, many_at}
 use Rattle.cert_text.proofs.Cutting.{bind_ok, at_line_ok, cut_takes, line_at_again, ok_is, done}

@@ -7,9 +7,9 @@ use Rattle.std.proofs.lemmas.List.{length-map}
 use Rattle.ballot_form.specs.Rules.{IsRule}
 use Rattle.ballot_form.specs.declared.rule.Rule.{Rule}
 use Rattle.ballot_form.specs.declared.rule.Rule.TheVariants.{Plurality, Borda, Condorcet, Dhondt, Irv}
-use Rattle.text_lines.specs.declared.numbers.LineFault.{LineFault}
-use Rattle.text_lines.specs.declared.numbers.LineFault.TheVariants.{BadLine}
-use Rattle.text_lines.specs.Forms.{number_of, both, made, alone, one_of, two_of, numbers_of, count_of}
+use Rattle.text_lines.specs.declared.fault.LineFault.{LineFault}
+use Rattle.text_lines.specs.declared.fault.LineFault.TheVariants.{BadLine}
+use Rattle.text_lines.specs.Forms.{number_within, both, made, alone, one_of, two_of, numbers_of, count_of}
 use Rattle.text_lines.proofs.Inverse.{guard_ok, number_takes, number_again}
 use Rattle.text_lines.proofs.Many.{both_ok, one_takes, one_again, two_takes, two_again, numbers_take, numbers_again, same_fields}
 use Rattle.text_lines.proofs.Joining.{ArePlain, number_plain}
@@ -186,9 +186,9 @@ bounds_take : (w : List ℕ) (fields : List (List ℕ)) (x : Claim) → w ≡ co
 bounds_take w [] x is e = absurd cc
 bounds_take w (f ∷ []) x is e = absurd cc
 bounds_take w (f ∷ g ∷ fields) x is e =
-    let m = made_ok bounds (both (number_of 0 1000000 f) (both (number_of 0 1000000 g) (stop_of fields))) x e in
-    let b = both_ok (number_of 0 1000000 f) (both (number_of 0 1000000 g) (stop_of fields)) m.0 m.1 in
-    let d = both_ok (number_of 0 1000000 g) (stop_of fields) m.0.1 b.1 in
+    let m = made_ok bounds (both (number_within 0 1000000 f) (both (number_within 0 1000000 g) (stop_of fields))) x e in
+    let b = both_ok (number_within 0 1000000 f) (both (number_within 0 1000000 g) (stop_of fields)) m.0 m.1 in
+    let d = both_ok (number_within 0 1000000 g) (stop_of fields) m.0.1 b.1 in
     let low = number_takes 0 1000000 f m.0.0 (omega arith) b.0 in
     let up = number_takes 0 1000000 g m.0.1.0 (omega arith) d.0 in
     let stop = stop_takes fields m.0.1.1 d.1 in
@@ -223,10 +223,10 @@ claim_again : (x : Claim) → ClaimFits x → claim_line (claim_words x) ≡ Ok 
 claim_again (Margin k) h = ap (made Margin) (one_again 0 1000000 k (omega arith) (omega arith, h))
 claim_again Fixed h = refl
 claim_again (Bounds low up stop) h =
-    let first : number_of 0 1000000 (decimal low) ≡ Ok low = number_again 0 1000000 low (omega arith) (omega arith) h.0 in
-    let second : number_of 0 1000000 (decimal up) ≡ Ok up = number_again 0 1000000 up (omega arith) (omega arith) h.1 in
+    let first : number_within 0 1000000 (decimal low) ≡ Ok low = number_again 0 1000000 low (omega arith) (omega arith) h.0 in
+    let second : number_within 0 1000000 (decimal up) ≡ Ok up = number_again 0 1000000 up (omega arith) (omega arith) h.1 in
     let third = stop_again stop h.2 in
-    ap (λ n. made bounds (both n (both (number_of 0 1000000 (decimal up)) (stop_of (stop_words stop))))) first
+    ap (λ n. made bounds (both n (both (number_within 0 1000000 (decimal up)) (stop_of (stop_words stop))))) first
     ∙ ap (λ n. made bounds (both (Ok low) (both n (stop_of (stop_words stop))))) second
     ∙ ap (λ n. made bounds (both (Ok low) (both (Ok up) n))) third
 

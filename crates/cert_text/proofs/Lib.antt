@@ -12,6 +12,5 @@ mod TurnForms
 mod Whole
 mod Faults
 mod Answering
-mod Pieces
 mod Writing
 mod Fitting

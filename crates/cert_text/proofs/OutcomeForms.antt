@@ -8,7 +8,7 @@ use Rattle.ballot_form.specs.declared.rule.Rule.{Rule}
 use Rattle.ballot_form.specs.declared.rule.Rule.TheVariants.{Plurality, Borda, Condorcet, Dhondt, Irv}
 use Rattle.ballot_form.specs.declared.outcome.Outcome.{Outcome}
 use Rattle.ballot_form.specs.declared.outcome.Outcome.TheVariants.{Winner, NoWinner, Seats}
-use Rattle.text_lines.specs.Forms.{is_digit, number_of, made, alone, one_of, count_of}
+use Rattle.text_lines.specs.Forms.{is_digit, number_within, made, alone, one_of, count_of}
 use Rattle.text_lines.proofs.Digits.{own}
 use Rattle.text_lines.proofs.Many.{one_takes, one_again, same_fields}
 use Rattle.text_lines.proofs.Joining.{ArePlain, number_plain}
@@ -33,7 +33,7 @@ put_behind fields fields' e = ap (λ (fs : List (List ℕ)). codes "reported" �
 
 none_takes : (c : ℕ) (fields : List (List ℕ)) (x : Outcome) → winner_or_none_of fields ≡ Ok x → IsOutcomeLine Condorcet c fields x
 none_takes c [] x e = absurd cc
-none_takes c (f ∷ fields) x e = elim (chosen (bytes_eq f (codes "none")) (alone (Ok NoWinner) fields) (made Winner (alone (number_of 0 255 f) fields)) (Ok x) e) [
+none_takes c (f ∷ fields) x e = elim (chosen (bytes_eq f (codes "none")) (alone (Ok NoWinner) fields) (made Winner (alone (number_within 0 255 f) fields)) (Ok x) e) [
   | inl a ↦
       let t = alone_ok (Ok NoWinner) fields x a.1 in
       subst (λ y. IsOutcomeLine Condorcet c (f ∷ fields) y) (is_ok NoWinner x t.1) (put_behind (f ∷ fields) (codes "none" ∷ []) (same_fields f (codes "none") fields [] (word_is f (codes "none") a.0) t.0), tt)
@@ -75,7 +75,7 @@ not_none y h = not_none_at y (bytes_eq (decimal y) (codes "none")) h refl
 
 condorcet_again : (y : ℕ) → y ≤ 255 → winner_or_none_of (decimal y ∷ []) ≡ Ok (Winner y)
 condorcet_again y h =
-    ap (λ b. cond b (alone (Ok NoWinner) []) (made Winner (alone (number_of 0 255 (decimal y)) []))) (not_none y h) ∙ winner_again y h
+    ap (λ b. cond b (alone (Ok NoWinner) []) (made Winner (alone (number_within 0 255 (decimal y)) []))) (not_none y h) ∙ winner_again y h
 
 outcome_again : (rule : Rule) (c : ℕ) (x : Outcome) → OutcomeFits rule c x → reported_line rule c (outcome_words x) ≡ Ok x
 outcome_again (Dhondt total) c (Seats seats) h = ap (made Seats) (count_again c 500 seats (omega arith) h.0 h.1)

@@ -4,8 +4,8 @@ use Rattle.std.specs.Prelude.{codes, decimal}
 use Rattle.std.specs.Str.{bytes_eq}
 use Rattle.std.proofs.lemmas.Bool.{ltb-false, le-ltb}
 use Rattle.std.proofs.lemmas.List.{length-map}
-use Rattle.text_lines.specs.declared.numbers.LineFault.TheVariants.{BadLine}
-use Rattle.text_lines.specs.Forms.{number_of, both, made, one_of, two_of, numbers_of}
+use Rattle.text_lines.specs.declared.fault.LineFault.TheVariants.{BadLine}
+use Rattle.text_lines.specs.Forms.{number_within, both, made, one_of, two_of, numbers_of}
 use Rattle.text_lines.proofs.Inverse.{guard_ok, number_takes, number_again}
 use Rattle.text_lines.proofs.Many.{both_ok, one_takes, one_again, two_takes, two_again, numbers_take, numbers_again, same_fields}
 use Rattle.text_lines.proofs.Joining.{ArePlain, number_plain}
@@ -46,8 +46,8 @@ arc_takes : (w v : List ℕ) (fields : List (List ℕ)) (x : Line) → w ≡ cod
 arc_takes w v [] x is is' e = absurd cc
 arc_takes w v (u ∷ fields) x is is' e =
     let make : ℕ × (ℕ × ℕ) → Line = λ y. BranchBy (Arc y.0 y.1.0) y.1.1 in
-    let m = made_ok make (both (number_of 0 39 u) (two_of 1 40 0 999999 fields)) x e in
-    let b = both_ok (number_of 0 39 u) (two_of 1 40 0 999999 fields) m.0 m.1 in
+    let m = made_ok make (both (number_within 0 39 u) (two_of 1 40 0 999999 fields)) x e in
+    let b = both_ok (number_within 0 39 u) (two_of 1 40 0 999999 fields) m.0 m.1 in
     let s = number_takes 0 39 u m.0.0 (omega arith) b.0 in
     let t = two_takes 1 40 0 999999 fields m.0.1 (omega arith) (omega arith) b.1 in
     let first = same_fields u (decimal m.0.0) fields (decimal m.0.1.0 ∷ decimal m.0.1.1 ∷ []) s.0 t.0 in
@@ -91,7 +91,7 @@ tree_line_again (BranchBy (From k) v) h =
     ap (made make) (two_again 0 1099511627775 0 999999 k v (omega arith) (omega arith) (omega arith, h.0) (omega arith, h.1))
 tree_line_again (BranchBy (Arc u y) v) h =
     let make : ℕ × (ℕ × ℕ) → Line = λ z. BranchBy (Arc z.0 z.1.0) z.1.1 in
-    let first : number_of 0 39 (decimal u) ≡ Ok u = number_again 0 39 u (omega arith) (omega arith) h.0 in
+    let first : number_within 0 39 (decimal u) ≡ Ok u = number_again 0 39 u (omega arith) (omega arith) h.0 in
     let others = two_again 1 40 0 999999 y v (omega arith) (omega arith) (h.1, h.2) (omega arith, h.3) in
     ap (made make) (ap (λ n. both n (two_of 1 40 0 999999 (decimal y ∷ decimal v ∷ []))) first ∙ ap (λ n. both (Ok u) n) others)
 tree_line_again (CutWith ns) h =

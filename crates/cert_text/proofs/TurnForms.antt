@@ -3,9 +3,9 @@ use Rattle.std.proofs.Common.{◌≡◌, ℕ, cond, List, [], ◌∷◌, map, Re
 use Rattle.std.specs.Prelude.{codes, decimal}
 use Rattle.std.specs.Str.{bytes_eq}
 use Rattle.alteration_model.specs.declared.puts.Put.{Put}
-use Rattle.text_lines.specs.declared.numbers.LineFault.{LineFault}
-use Rattle.text_lines.specs.declared.numbers.LineFault.TheVariants.{BadLine}
-use Rattle.text_lines.specs.Forms.{number_of, both, made, one_of, two_of, numbers_of, count_of}
+use Rattle.text_lines.specs.declared.fault.LineFault.{LineFault}
+use Rattle.text_lines.specs.declared.fault.LineFault.TheVariants.{BadLine}
+use Rattle.text_lines.specs.Forms.{number_within, both, made, one_of, two_of, numbers_of, count_of}
 use Rattle.text_lines.proofs.Inverse.{number_takes, number_again}
 use Rattle.text_lines.proofs.Many.{both_ok, one_takes, one_again, two_takes, two_again, numbers_take, numbers_again, same_fields}
 use Rattle.text_lines.proofs.Joining.{ArePlain, number_plain}
@@ -23,8 +23,8 @@ put_behind fields fields' e = ap (λ (fs : List (List ℕ)). codes "put" ∷ fs)
 put_fields_take : (fields : List (List ℕ)) (x : Put) → put_fields fields ≡ Ok x → (codes "put" ∷ fields ≡ put_words x) × PutFits x
 put_fields_take [] x e = absurd cc
 put_fields_take (f ∷ fields) x e =
-    let m = made_ok put_of (both (number_of 0 1000000 f) (numbers_of 0 255 fields)) x e in
-    let b = both_ok (number_of 0 1000000 f) (numbers_of 0 255 fields) m.0 m.1 in
+    let m = made_ok put_of (both (number_within 0 1000000 f) (numbers_of 0 255 fields)) x e in
+    let b = both_ok (number_within 0 1000000 f) (numbers_of 0 255 fields) m.0 m.1 in
     let s = number_takes 0 1000000 f m.0.0 (omega arith) b.0 in
     let t = numbers_take 0 255 fields m.0.1 (omega arith) b.1 in
     subst (λ y. (codes "put" ∷ f ∷ fields ≡ put_words y) × PutFits y) m.2
@@ -38,7 +38,7 @@ put_takes fields x e =
 
 put_again : (x : Put) → PutFits x → put_line (put_words x) ≡ Ok x
 put_again x h =
-    let first : number_of 0 1000000 (decimal x.number) ≡ Ok x.number = number_again 0 1000000 x.number (omega arith) (omega arith) h.0 in
+    let first : number_within 0 1000000 (decimal x.number) ≡ Ok x.number = number_again 0 1000000 x.number (omega arith) (omega arith) h.0 in
     let others = numbers_again 0 255 x.ballot (omega arith) (small_within 255 x.ballot h.1) in
     ap (made put_of) (ap (λ n. both n (numbers_of 0 255 (map decimal x.ballot))) first ∙ ap (λ n. both (Ok x.number) n) others)
 

@@ -21,7 +21,8 @@ use Rattle.cert_text.specs.Reading.{◌>>=◌, Place, fault, form_at, many_at}
 use Rattle.cert_text.specs.HeadLines.{first_line, rule_line, size_line, reported_line, claim_line, goal_line, put_line}
 use Rattle.cert_text.specs.TreeReading.{node_at}
 use Rattle.cert_text.specs.CertReading.{turn_at, body_at, cert_at, first_fault}
-use Rattle.cert_text.specs.CertText.{line_text, rule_words, size_words, outcome_words, claim_words, put_words, goal_words, goal_text, puts_text, tree_text, cert_text, SizeFits, OutcomeFits, ClaimFits, PutFits, GoalFits, TurnFits, BodyFits, IsPrintable, CertText}
+use Rattle.text_lines.specs.Words.{line_text}
+use Rattle.cert_text.specs.CertText.{rule_words, size_words, outcome_words, claim_words, put_words, goal_words, goal_text, puts_text, tree_text, cert_text, SizeFits, OutcomeFits, ClaimFits, PutFits, GoalFits, TurnFits, BodyFits, IsPrintable, CertText}
 use Rattle.cert_text.proofs.Cutting.{bind_ok, ok_is}
 use Rattle.cert_text.proofs.Forms.{IsForm, line_form, form_takes, form_again, many_take, many_again}
 use Rattle.cert_text.proofs.HeadForms.{first_form, rule_form, size_form, claim_form}

@@ -11,7 +11,7 @@ use Rattle.row_program.specs.declared.Feature.TheVariants.{From, Arc}
 use Rattle.bound_tree.specs.Plain.{Plain}
 use Rattle.bound_tree.specs.Nodes.{size, height}
 use Rattle.bound_tree.specs.Lines.{Line, SplitInto, BranchBy, CutWith, lines_of}
-use Rattle.text_lines.specs.Words.{line_of}
+use Rattle.text_lines.specs.Words.{line_text}
 use Rattle.cert_text.specs.declared.cert.Stop.{Stop}
 use Rattle.cert_text.specs.declared.cert.Stop.TheVariants.{Budget, Depth}
 use Rattle.cert_text.specs.declared.cert.Claim.{Claim}
@@ -19,10 +19,6 @@ use Rattle.cert_text.specs.declared.cert.Claim.TheVariants.{Margin, Fixed, Bound
 use Rattle.cert_text.specs.declared.cert.GoalText.{GoalText}
 use Rattle.cert_text.specs.declared.cert.GoalText.TheVariants.{Order, Pair, Cover}
 use Rattle.cert_text.specs.declared.cert.Cert.{Cert}
-
--- a line of these fields, ended by a line feed
-abbrev pub line_text : List (List ℕ) → List ℕ
-line_text fields = line_of fields ++ 10 ∷ []
 
 -- ---- the fields of each line
 

@@ -1,9 +1,9 @@
 -- The lines before a tree, each by its fields.
 use Rattle.std.specs.Prelude.{ℕ, if◌then◌else◌, List, [], ◌∷◌, codes, Result, Ok, Err}
 use Rattle.std.specs.Str.{bytes_eq}
-use Rattle.text_lines.specs.declared.numbers.LineFault.{LineFault}
-use Rattle.text_lines.specs.declared.numbers.LineFault.TheVariants.{BadLine}
-use Rattle.text_lines.specs.Forms.{number_of, both, made, alone, after, one_of, two_of, numbers_of, count_of}
+use Rattle.text_lines.specs.declared.fault.LineFault.{LineFault}
+use Rattle.text_lines.specs.declared.fault.LineFault.TheVariants.{BadLine}
+use Rattle.text_lines.specs.Forms.{number_within, both, made, alone, after, one_of, two_of, numbers_of, count_of}
 use Rattle.ballot_form.specs.declared.rule.Rule.{Rule}
 use Rattle.ballot_form.specs.declared.rule.Rule.TheVariants.{Plurality, Borda, Condorcet, Dhondt, Irv}
 use Rattle.ballot_form.specs.declared.outcome.Outcome.{Outcome}
@@ -48,7 +48,7 @@ winner_of fields = made Winner (one_of 0 255 fields)
 abbrev pub winner_or_none_of : List (List ℕ) → Result Outcome LineFault
 winner_or_none_of [] = Err BadLine
 winner_or_none_of (field ∷ fields) =
-    if bytes_eq field (codes "none") then alone (Ok NoWinner) fields else made Winner (alone (number_of 0 255 field) fields)
+    if bytes_eq field (codes "none") then alone (Ok NoWinner) fields else made Winner (alone (number_within 0 255 field) fields)
 
 abbrev pub seats_of : ℕ → List (List ℕ) → Result Outcome LineFault
 seats_of c fields = made Seats (count_of c 0 500 fields)
@@ -72,7 +72,7 @@ stop_of (word ∷ fields) =
 abbrev pub bounds_of : List (List ℕ) → Result Claim LineFault
 bounds_of [] = Err BadLine
 bounds_of (low ∷ []) = Err BadLine
-bounds_of (low ∷ up ∷ fields) = made (λ x. Bounds x.0 x.1.0 x.1.1) (both (number_of 0 1000000 low) (both (number_of 0 1000000 up) (stop_of fields)))
+bounds_of (low ∷ up ∷ fields) = made (λ x. Bounds x.0 x.1.0 x.1.1) (both (number_within 0 1000000 low) (both (number_within 0 1000000 up) (stop_of fields)))
 
 abbrev pub claim_line : List (List ℕ) → Result Claim LineFault
 claim_line [] = Err BadLine
@@ -109,7 +109,7 @@ put_of x = record { number = x.0; ballot = x.1 }
 
 abbrev pub put_fields : List (List ℕ) → Result Put LineFault
 put_fields [] = Err BadLine
-put_fields (number ∷ fields) = made put_of (both (number_of 0 1000000 number) (numbers_of 0 255 fields))
+put_fields (number ∷ fields) = made put_of (both (number_within 0 1000000 number) (numbers_of 0 255 fields))
 
 abbrev pub put_line : List (List ℕ) → Result Put LineFault
 put_line fields = after (codes "put") put_fields fields

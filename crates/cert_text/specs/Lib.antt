@@ -4,4 +4,3 @@ pub mod TreeLines
 pub mod TreeReading
 pub mod CertText
 pub mod CertReading
-pub mod Pieces

@@ -1,9 +1,9 @@
 -- The lines of a tree.
 use Rattle.std.specs.Prelude.{ℕ, nat_lt, if◌then◌else◌, List, [], ◌∷◌, length, codes, Result, Err}
 use Rattle.std.specs.Str.{bytes_eq}
-use Rattle.text_lines.specs.declared.numbers.LineFault.{LineFault}
-use Rattle.text_lines.specs.declared.numbers.LineFault.TheVariants.{BadLine}
-use Rattle.text_lines.specs.Forms.{number_of, both, made, one_of, two_of, numbers_of}
+use Rattle.text_lines.specs.declared.fault.LineFault.{LineFault}
+use Rattle.text_lines.specs.declared.fault.LineFault.TheVariants.{BadLine}
+use Rattle.text_lines.specs.Forms.{number_within, both, made, one_of, two_of, numbers_of}
 use Rattle.row_program.specs.declared.Feature.TheVariants.{From, Arc}
 use Rattle.bound_tree.specs.Lines.{Line, SplitInto, BranchBy, CutWith}
 use Rattle.cert_text.specs.declared.tree_line.TreeLine.{TreeLine}
@@ -23,7 +23,7 @@ from_line fields = made (λ x. BranchBy (From x.0) x.1) (two_of 0 1099511627775 
 
 abbrev pub arc_line : List (List ℕ) → Result Line LineFault
 arc_line [] = Err BadLine
-arc_line (u ∷ fields) = made (λ x. BranchBy (Arc x.0 x.1.0) x.1.1) (both (number_of 0 39 u) (two_of 1 40 0 999999 fields))
+arc_line (u ∷ fields) = made (λ x. BranchBy (Arc x.0 x.1.0) x.1.1) (both (number_within 0 39 u) (two_of 1 40 0 999999 fields))
 
 abbrev pub branch_line : List (List ℕ) → Result Line LineFault
 branch_line [] = Err BadLine

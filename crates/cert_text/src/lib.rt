@@ -14,7 +14,6 @@ mod fault;
 mod head_line;
 mod laws;
 mod limits;
-pub mod lines;
 mod printable;
 mod reader;
 mod tree_limits;
@@ -23,6 +22,7 @@ mod tree_read;
 mod tree_write;
 mod turn_line;
 mod write;
+pub mod written;
 
 pub use cert::{Cert, Claim, GoalText, Stop};
 pub use cert_read::read_cert;

@@ -2,9 +2,9 @@
 use Rattle.std.proofs.Common.{◌≡◌, ℕ, ◌<◌, ◌≤◌, ◌^◌, List, [], ◌∷◌, map, Result, Ok, Err, refl, sym, ap, ◌∙◌, append_assoc}
 use Rattle.std.specs.List.{AllByRecursion}
 use Rattle.std.specs.Fmt.{decimal}
-use Rattle.text_lines.specs.declared.numbers.LineFault.{LineFault}
-use Rattle.text_lines.specs.declared.numbers.LineFault.TheVariants.{BadLine, BadNumber}
-use Rattle.text_lines.specs.Forms.{number_of, numbers_of, joined, single, both, one_of, two_of, alone}
+use Rattle.text_lines.specs.declared.fault.LineFault.{LineFault}
+use Rattle.text_lines.specs.declared.fault.LineFault.TheVariants.{BadLine, BadNumber}
+use Rattle.text_lines.specs.Forms.{number_within, numbers_of, joined, single, both, one_of, two_of, alone}
 use Rattle.text_lines.proofs.Inverse.{number_takes, number_again}
 
 joined_assoc : (a b c : Result (List ℕ) LineFault) → joined (joined a b) c ≡ joined a (joined b c)
@@ -23,10 +23,10 @@ joined_assoc (Err BadLine) (Err BadNumber) (Err g) = refl
 joined_assoc (Err BadNumber) (Err BadLine) (Err g) = refl
 joined_assoc (Err BadNumber) (Err BadNumber) (Err g) = refl
 
-pub goes_on : (low high : ℕ) (found found2 total : Result (List ℕ) LineFault) (n : Result ℕ LineFault) (f : List ℕ) (fields rest : List (List ℕ)) → fields ≡ f ∷ rest → n ≡ number_of low high f
+pub goes_on : (low high : ℕ) (found found2 total : Result (List ℕ) LineFault) (n : Result ℕ LineFault) (f : List ℕ) (fields rest : List (List ℕ)) → fields ≡ f ∷ rest → n ≡ number_within low high f
     → found2 ≡ joined found (single n) → joined found (numbers_of low high fields) ≡ total → joined found2 (numbers_of low high rest) ≡ total
 goes_on low high found found2 total n f fields rest e is pushed so_far =
-    rw (pushed, is) (joined_assoc found (single (number_of low high f)) (numbers_of low high rest) ∙ ap (λ fs. joined found (numbers_of low high fs)) (sym e) ∙ so_far)
+    rw (pushed, is) (joined_assoc found (single (number_within low high f)) (numbers_of low high rest) ∙ ap (λ fs. joined found (numbers_of low high fs)) (sym e) ∙ so_far)
 
 -- ---- what is read is spelled so, and what is spelled so is read again
 
@@ -44,26 +44,26 @@ alone_ok : {A : Type 0} (r : Result A LineFault) (fields : List (List ℕ)) (y :
 alone_ok r [] y e = (e, refl)
 alone_ok r (f ∷ fs) y e = absurd cc
 
-pub one_takes : (low high : ℕ) (fields : List (List ℕ)) (n : ℕ) → high < 2 ^ 63 → one_of low high fields ≡ Ok n → (fields ≡ decimal n ∷ []) × IsWithin low high n
+pub one_takes : (low high : ℕ) (fields : List (List ℕ)) (n : ℕ) → high < 2 ^ 64 → one_of low high fields ≡ Ok n → (fields ≡ decimal n ∷ []) × IsWithin low high n
 one_takes low high [] n fits e = absurd cc
 one_takes low high (f ∷ fs) n fits e =
-    let a = alone_ok (number_of low high f) fs n e in
+    let a = alone_ok (number_within low high f) fs n e in
     let t = number_takes low high f n fits a.0 in
     (rw (t.0, a.1) refl, (t.1, t.2))
 
-pub one_again : (low high n : ℕ) → high < 2 ^ 63 → IsWithin low high n → one_of low high (decimal n ∷ []) ≡ Ok n
+pub one_again : (low high n : ℕ) → high < 2 ^ 64 → IsWithin low high n → one_of low high (decimal n ∷ []) ≡ Ok n
 one_again low high n fits h = number_again low high n fits h.0 h.1
 
-pub two_takes : (low high low' high' : ℕ) (fields : List (List ℕ)) (x : ℕ × ℕ) → high < 2 ^ 63 → high' < 2 ^ 63 → two_of low high low' high' fields ≡ Ok x
+pub two_takes : (low high low' high' : ℕ) (fields : List (List ℕ)) (x : ℕ × ℕ) → high < 2 ^ 64 → high' < 2 ^ 64 → two_of low high low' high' fields ≡ Ok x
     → (fields ≡ decimal x.0 ∷ decimal x.1 ∷ []) × IsWithin low high x.0 × IsWithin low' high' x.1
 two_takes low high low' high' [] x fits fits' e = absurd cc
 two_takes low high low' high' (f ∷ fs) x fits fits' e =
-    let b = both_ok (number_of low high f) (one_of low' high' fs) x e in
+    let b = both_ok (number_within low high f) (one_of low' high' fs) x e in
     let t = number_takes low high f x.0 fits b.0 in
     let u = one_takes low' high' fs x.1 fits' b.1 in
     (rw (t.0, u.0) refl, (t.1, t.2), u.1)
 
-pub two_again : (low high low' high' m n : ℕ) → high < 2 ^ 63 → high' < 2 ^ 63 → IsWithin low high m → IsWithin low' high' n → two_of low high low' high' (decimal m ∷ decimal n ∷ []) ≡ Ok (m, n)
+pub two_again : (low high low' high' m n : ℕ) → high < 2 ^ 64 → high' < 2 ^ 64 → IsWithin low high m → IsWithin low' high' n → two_of low high low' high' (decimal m ∷ decimal n ∷ []) ≡ Ok (m, n)
 two_again low high low' high' m n fits fits' h h' = rw (number_again low high m fits h.0 h.1, number_again low' high' n fits' h'.0 h'.1) refl
 
 joined_ok : (r : Result ℕ LineFault) (s : Result (List ℕ) LineFault) (ns : List ℕ) → joined (single r) s ≡ Ok ns → (n : ℕ) × (ms : List ℕ) × (r ≡ Ok n) × (s ≡ Ok ms) × (n ∷ ms ≡ ns)
@@ -83,14 +83,14 @@ pub record AreNumbers (low high : ℕ) (fields : List (List ℕ)) (ns : List ℕ
   pub spelled : fields ≡ map decimal ns
   pub within : AllByRecursion (IsWithin low high) ns
 
-pub numbers_take : (low high : ℕ) (fields : List (List ℕ)) (ns : List ℕ) → high < 2 ^ 63 → numbers_of low high fields ≡ Ok ns → AreNumbers low high fields ns
+pub numbers_take : (low high : ℕ) (fields : List (List ℕ)) (ns : List ℕ) → high < 2 ^ 64 → numbers_of low high fields ≡ Ok ns → AreNumbers low high fields ns
 numbers_take low high [] ns fits e = rw (← ok_is [] ns e) (record { spelled = refl; within = tt })
 numbers_take low high (f ∷ fs) ns fits e =
-    let j = joined_ok (number_of low high f) (numbers_of low high fs) ns e in
+    let j = joined_ok (number_within low high f) (numbers_of low high fs) ns e in
     let t = number_takes low high f j.0 fits j.2 in
     let u = numbers_take low high fs j.1 fits j.3 in
     rw (← j.4) (record { spelled = same_fields f (decimal j.0) fs (map decimal j.1) t.0 u.spelled; within = ((t.1, t.2), u.within) })
 
-pub numbers_again : (low high : ℕ) (ns : List ℕ) → high < 2 ^ 63 → AllByRecursion (IsWithin low high) ns → numbers_of low high (map decimal ns) ≡ Ok ns
+pub numbers_again : (low high : ℕ) (ns : List ℕ) → high < 2 ^ 64 → AllByRecursion (IsWithin low high) ns → numbers_of low high (map decimal ns) ≡ Ok ns
 numbers_again low high [] fits h = refl
 numbers_again low high (n ∷ ns) fits h = rw (number_again low high n fits h.0.0 h.0.1, numbers_again low high ns fits h.1) refl

@@ -1,13 +1,26 @@
 // What is left of a line, read as numbers.
-ghost use Rattle.std.specs.Prelude.{◌≡◌, ◌<◌, ◌≤◌, ◌^◌, [], drop, length, IfOk, OnOk};
+ghost use Rattle.std.specs.Prelude.{◌≡◌, ◌≤◌, [], drop, length, IfOk, OnOk};
 ghost use Rattle.std.specs.Str.{bytes_eq};
 ghost use Rattle.text_lines.specs.Words.{ahead};
-ghost use Rattle.text_lines.specs.Forms.{begins, behind, alone, made, one_of, two_of, numbers_of, count_of, joined, single};
+ghost use Rattle.text_lines.specs.Forms.{begins, behind, alone, made, one_of, two_of, numbers_of, count_of, joined, single, number_within};
 
+use crate::fault::{LineFault, both};
 use crate::lists::NumberList;
-use crate::numbers::{LineFault, both, number};
+use crate::numbers::{Numeral, read_numeral};
 use crate::parts::Fields;
 use mov_base::Memory;
+
+/// The number that a field is, from `low` to `high`.
+pub fn number(low: u64, high: u64, field: &[u8]) -> Result<u64, LineFault>
+    ensures is { result ≡ number_within low high field.now }
+    ensures within { IfOk result (λ n. (low ≤ n) × (n ≤ high)) }
+{
+    match read_numeral(high, field) {
+        Numeral::NotDigits => Err(LineFault::BadLine),
+        Numeral::Number(n) if low <= n => Ok(n),
+        _ => Err(LineFault::BadNumber),
+    }
+}
 
 /// The part, where no field is left. Where one is, it is passed over.
 pub fn nothing_more<T: Drop>(
@@ -26,7 +39,6 @@ pub fn nothing_more<T: Drop>(
 
 /// The one number that is left, from `low` to `high`. It passes over two fields at most.
 pub fn one_number(low: u64, high: u64, fields: &mut Fields<'_>) -> Result<u64, LineFault>
-    requires { high < 2 ^ 63 }
     ensures is { result ≡ one_of low high (ahead fields.old) }
     ensures within { IfOk result (λ n. (low ≤ n) × (n ≤ high)) }
     ensures rest { ahead fields.new ≡ drop 2 (ahead fields.old) }
@@ -46,8 +58,6 @@ pub fn two_numbers(
     high2: u64,
     fields: &mut Fields<'_>,
 ) -> Result<(u64, u64), LineFault>
-    requires first { high < 2 ^ 63 }
-    requires second { high2 < 2 ^ 63 }
     ensures is { result ≡ two_of low high low2 high2 (ahead fields.old) }
     ensures within { IfOk result (λ x. (low ≤ x.0) × (x.0 ≤ high) × (low2 ≤ x.1) × (x.1 ≤ high2)) }
     ensures rest { ahead fields.new ≡ drop 3 (ahead fields.old) }
@@ -86,7 +96,6 @@ pub fn any_numbers<N: NumberList>(
     high: u64,
     fields: &mut Fields<'_>,
 ) -> Result<Result<N, LineFault>, Memory>
-    requires limit { high < 2 ^ 63 }
     requires kept { high ≤ N.most }
     requires empty { N.numbers empty ≡ [] }
     ensures is { IfOk result (λ r. made N.numbers r ≡ numbers_of low high (ahead fields.old)) }
@@ -109,7 +118,6 @@ pub fn so_many_numbers<N: NumberList>(
     high: u64,
     fields: &mut Fields<'_>,
 ) -> Result<Result<N, LineFault>, Memory>
-    requires limit { high < 2 ^ 63 }
     requires kept { high ≤ N.most }
     requires empty { N.numbers empty ≡ [] }
     ensures is { IfOk result (λ r. made N.numbers r ≡ count_of count low high (ahead fields.old)) }
