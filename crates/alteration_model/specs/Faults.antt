@@ -35,7 +35,7 @@ abbrev pub pairs_of : List Put → List (ℕ × List ℕ)
 pairs_of puts = map (λ put. (put.number, put.ballot)) puts
 
 -- the replacements where no put has a fault, or the first fault, unless memory ran out
-abbrev pub Gives : Poll → List Put → Result (List (ℕ × List ℕ)) AlterFault → Type 0
-Gives p puts (Ok changes) = IsFirstFault p puts None × (changes ≡ pairs_of puts)
-Gives p puts (Err Memory) = ⊤
-Gives p puts (Err fault) = IsFirstFault p puts (Some fault)
+abbrev pub Judges : Poll → List Put → Result (List (ℕ × List ℕ)) AlterFault → Type 0
+Judges p puts (Ok changes) = IsFirstFault p puts None × (changes ≡ pairs_of puts)
+Judges p puts (Err Memory) = ⊤
+Judges p puts (Err fault) = IsFirstFault p puts (Some fault)

@@ -1,7 +1,13 @@
 // Alterations.
-ghost use Rattle.std.specs.Prelude.{◌≡◌, ◌<◌, ◌≤◌, Some, length, option_map, slice_get};
+ghost use Rattle.std.specs.Prelude.{◌≡◌, ◌<◌, ◌≤◌, IfOk, Some, length, option_map, slice_get};
+ghost use Rattle.ballot_form.specs.Alterations.{IsAlteration};
+ghost use Rattle.alteration_model.specs.Faults.{pairs_of};
 
-use ballot_form::{Cand, Ranking};
+use crate::Put;
+use crate::check::changes_of;
+use ballot_form::{Cand, MOST_BALLOTS, Ranking, Roll};
+use mov_base::Memory;
+use std::alloc::Global;
 use std::marker::Model;
 
 /// A list of replacements: the number of a ballot, from 1, and the valid ballot that replaces it. Numbers ascend strictly. Contracts
@@ -13,17 +19,28 @@ pub struct Alteration {
 
 impl Model for Alteration {
     ghost use Rattle.std.specs.Prelude.{List, ℕ, ◌≤◌, length};
+    ghost use Rattle.ballot_form.specs.declared.limits.TheConstants.{MOST_BALLOTS};
 
     ghost Value = { List (ℕ × List ℕ) };
 
     ghost view = { λ a. a.changes.items };
 
-    ghost invariant = { λ a. length a.changes.items ≤ 1000000 };
+    ghost invariant = { λ a. length a.changes.items ≤ MOST_BALLOTS };
 }
 
 impl Alteration {
+    /// The alteration of the roll that these puts are.
+    #[tactic(auto, using(crate::proofs::Judged::pairs_distinct, crate::proofs::Judged::few_pairs))]
+    pub fn from_puts(alloc: Global, roll: &Roll, puts: &[Put]) -> Result<Alteration, Memory>
+        requires { IsAlteration roll.now (pairs_of puts.now) }
+        ensures { IfOk result (λ changes. changes ≡ pairs_of puts.now) }
+    {
+        let _ = roll.len();
+        Ok(Alteration::of(changes_of(alloc, puts)?))
+    }
+
     pub(crate) fn of(changes: Vec<(u32, Ranking)>) -> Alteration
-        requires { length changes.items ≤ 1000000 }
+        requires { length changes.items ≤ MOST_BALLOTS }
         ensures { result ≡ changes.items }
     {
         Alteration { changes }
@@ -38,7 +55,7 @@ impl Alteration {
     /// How many replacements there are.
     pub fn len(&self) -> u32
         ensures value { result ≡ length self.now }
-        ensures few { result ≤ 1000000 }
+        ensures few { result ≤ MOST_BALLOTS }
     {
         self.changes.len() as u32
     }

@@ -5,7 +5,7 @@ ghost use Rattle.ballot_form.specs.Ballots.{IsValidBallot};
 ghost use Rattle.alteration_model.specs.Picks.{Picks};
 
 use crate::Alteration;
-use ballot_form::{Cand, PushFault, Ranking, Roll};
+use ballot_form::{Cand, MOST_BALLOTS, PushFault, Ranking, Roll};
 use mov_base::Memory;
 use std::alloc::Global;
 
@@ -45,7 +45,7 @@ fn pick<'a>(
 /// Adds one ballot to a roll that isn't full.
 fn push_one(roll: &mut Roll, row: &[Cand]) -> Result<(), Memory>
     requires valid { IsValidBallot roll.old.c row.now }
-    requires room { length roll.old.ballots < 1000000 }
+    requires room { length roll.old.ballots < MOST_BALLOTS }
     ensures ok { OnOk result (roll.new ≡ record roll.old { ballots = roll.old.ballots ++ row.now ∷ [] }) }
     ensures err { OnErr result (roll.new ≡ roll.old) }
 {

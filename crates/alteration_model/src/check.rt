@@ -2,7 +2,7 @@
 ghost use Rattle.std.specs.Prelude.{◌≡◌, ◌+◌, ◌≤◌, All, Some, IfOk, length};
 ghost use Rattle.ballot_form.specs.Alterations.{IsAlteration};
 ghost use Rattle.ballot_form.specs.Ballots.{AreDistinct};
-ghost use Rattle.alteration_model.specs.Faults.{Gives, IsFirstFault, IsPutFault, pairs_of};
+ghost use Rattle.alteration_model.specs.Faults.{IsFirstFault, IsPutFault, Judges, pairs_of};
 
 use crate::{AlterFault, Alteration, Put};
 use ballot_form::{Ranking, Roll, valid_row};
@@ -11,17 +11,15 @@ use std::alloc::Global;
 
 /// The alteration of the roll that the puts are, or the fault of the first bad put. Of several faults of one put the first of this
 /// order counts: its number, its order, its ballot.
-#[tactic(auto, using(crate::proofs::Judged::gives_fault, crate::proofs::Judged::all_distinct, crate::proofs::Judged::is_alteration, crate::proofs::Judged::few))]
+#[tactic(auto, using(crate::proofs::Judged::judges_fault, crate::proofs::Judged::is_alteration))]
 pub fn check_alteration(alloc: Global, roll: &Roll, puts: &[Put]) -> Result<Alteration, AlterFault>
-    ensures gives { Gives roll.now puts.now result }
+    ensures gives { Judges roll.now puts.now result }
     ensures alteration { IfOk result (λ changes. IsAlteration roll.now changes) }
 {
-    let _ = roll.candidates();
     if let Some(fault) = first_fault(roll, puts) {
         return Err(fault);
     }
-    let changes = changes_of(alloc, puts)?;
-    Ok(Alteration::of(changes))
+    Ok(Alteration::from_puts(alloc, roll, puts)?)
 }
 
 /// The fault of the first bad put.
@@ -54,7 +52,7 @@ fn put_fault(roll: &Roll, put: &Put, at: usize, last: u32) -> Option<AlterFault>
 }
 
 /// The numbers and rankings of puts whose ballots name no candidate twice.
-fn changes_of(alloc: Global, puts: &[Put]) -> Result<Vec<(u32, Ranking)>, Memory>
+pub(crate) fn changes_of(alloc: Global, puts: &[Put]) -> Result<Vec<(u32, Ranking)>, Memory>
     requires { All (λ put. AreDistinct put.ballot) puts.now }
     ensures { IfOk result (λ changes. changes.items ≡ pairs_of puts.now) }
 {

@@ -15,8 +15,8 @@ pub use alterations::Alteration;
 pub use applied::apply;
 pub use check::check_alteration;
 pub use faults::AlterFault;
-pub use laws::a_first_fault_is_one;
+pub use laws::{
+    a_first_fault_is_one, an_alteration_is_no_longer_than_the_roll,
+    puts_without_fault_are_an_alteration,
+};
 pub use puts::{Put, PutList};
-
-#[cfg(test)]
-mod tests;

@@ -11,6 +11,3 @@ mod outcome;
 
 pub use matrix::{Matrix, pairs};
 pub use outcome::condorcet_outcome;
-
-#[cfg(test)]
-mod tests;

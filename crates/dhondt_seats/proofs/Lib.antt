@@ -1,4 +1,4 @@
 pub mod Counting
 pub mod Order
 pub mod Shares
-pub mod Firsts
+pub mod PartyVotes

@@ -13,6 +13,3 @@ mod votes;
 pub use allocation::is_allocation;
 pub use serving::seats;
 pub use votes::party_votes;
-
-#[cfg(test)]
-mod tests;

@@ -3,7 +3,7 @@ ghost use Rattle.std.specs.Prelude.{◌≡◌, ◌≤◌, ◌<◌, ◌*◌, ◌+
 ghost use Rattle.dhondt_seats.specs.Seats.{IsAllocation, reported_seats, seats_in_all};
 ghost use Rattle.dhondt_seats.specs.Serving.{IsNext, IsServed};
 
-use ballot_form::SeatList;
+use ballot_form::{MOST_BALLOTS, MOST_SEATS, SeatList};
 use mov_base::Memory;
 use std::alloc::Global;
 
@@ -11,10 +11,10 @@ use std::alloc::Global;
 /// lower-numbered party comes first among equals.
 pub fn seats(alloc: Global, votes: &[u64], s: u16) -> Result<SeatList, Memory>
     requires some_party { 1 ≤ length votes.now }
-    requires most_parties { length votes.now ≤ 255 }
+    requires most_parties { length votes.now ≤ u8.MAX }
     requires some_seat { 1 ≤ s }
-    requires most_seats { s ≤ 500 }
-    requires few { All (λ v. v ≤ 1000000) votes.now }
+    requires most_seats { s ≤ MOST_SEATS }
+    requires few { All (λ v. v ≤ MOST_BALLOTS) votes.now }
     ensures reported { IfOk result (λ shares. shares ≡ reported_seats votes.now s) }
     ensures admitted { IfOk result (λ shares. IsAllocation votes.now s shares) }
 {
@@ -27,7 +27,7 @@ pub fn seats(alloc: Global, votes: &[u64], s: u16) -> Result<SeatList, Memory>
 fn serve_all(votes: &[u64], shares: &mut [u16], s: u16)
     requires some { 1 ≤ length votes.now }
     requires parties { length shares.old ≡ length votes.now }
-    requires most { s ≤ 500 }
+    requires most { s ≤ MOST_SEATS }
     requires none { EachIndex shares.old (λ a. slice_index shares.old a ≡ 0) }
     ensures reported { shares.new ≡ reported_seats votes.now s }
     ensures admitted { IsAllocation votes.now s shares.new }

@@ -2,6 +2,7 @@
 use Rattle.std.proofs.Common.{ℕ, List, true, false, ◌≡◌, ◌<◌, ◌≤◌, ◌+◌, ◌-◌, ◌^◌, ◌∙◌, length, get_or, sym, subst, inl, inr, arith}
 use Rattle.std.specs.Prelude.{◌↔◌}
 use Rattle.std.proofs.lemmas.Bool.{cases_eq}
+use Rattle.ballot_form.specs.declared.limits.TheConstants.{MOST_CANDIDATES}
 use Rattle.ballot_form.specs.Ballots.{IsPoll, Poll}
 use Rattle.irv_count.specs.Orders.{held_count, left_after, stands, IsOrder, IsLegalOrder}
 use Rattle.irv_count.specs.Rounds.{AreBitsOf, IsLeast, IsLegalTo}
@@ -26,7 +27,7 @@ pub legal_stepped : (p : Poll) (order : List ℕ) (standing after i : ℕ) → I
     → ((y : ℕ) → y < 64 → (y ≡ get_or order i 0 → ⊥) → stands after y ≡ stands standing y) → stands after (get_or order i 0) ≡ false → after ≤ standing
     → IsLegalTo p order after (i + 1)
 legal_stepped p order standing after i is whole ic to least others gone smaller =
-    let few : p.c ≤ 12 = is.most in
+    let few : p.c ≤ MOST_CANDIDATES = is.most in
     record {
       set = left_without p.c order standing after i (omega arith) (let l = whole.long in omega arith) to.set others gone smaller;
       least = λ k y kl yc stays. elim (cases_eq k i) [

@@ -4,6 +4,7 @@ use Rattle.std.specs.Prelude.{not}
 use Rattle.std.proofs.Math.Seq.{get_or-append_seam, take-append_seam}
 use Rattle.std.proofs.lemmas.Bool.{cases_lt, cases_eq}
 use Rattle.std.proofs.lemmas.List.{take-append-le, get_or_append_left}
+use Rattle.ballot_form.specs.declared.limits.TheConstants.{MOST_CANDIDATES}
 use Rattle.ballot_form.specs.Ballots.{IsPoll, Poll}
 use Rattle.irv_count.specs.Orders.{member, held_count, stands, GoesFirst, IsOrderBy}
 use Rattle.irv_count.specs.Rounds.{count_to, Goes, IsOut, IsPart}
@@ -79,7 +80,7 @@ pub stepped : (against : Option ℕ) (p : Poll) (order : List ℕ) (standing aft
     → IsPart against p order standing → IsOut against (held_count (stands standing) p.ballots) standing p.c x
     → ((y : ℕ) → y < 64 → (y ≡ x → ⊥) → stands after y ≡ stands standing y) → stands after x ≡ false → after ≤ standing → IsPart against p (order ++ x ∷ []) after
 stepped against p order standing after x is part out others gone smaller =
-    let few : p.c ≤ 12 = is.most in
+    let few : p.c ≤ MOST_CANDIDATES = is.most in
     let long : length (order ++ x ∷ []) ≡ length order + 1 = simp length-append refl in
     let new : member x order ≡ false = fresh against p order standing x (held_count (stands standing) p.ballots) part out in
     let old : (i : ℕ) → i < length order → get_or (order ++ x ∷ []) i 0 ≡ get_or order i 0 = λ i lt. get_or_append_left order (x ∷ []) 0 i lt in

@@ -5,7 +5,7 @@ ghost use Rattle.irv_count.specs.Rounds.{IsLeast};
 
 use crate::held::held_counts;
 use crate::standing::{all_of, stands_in, without};
-use ballot_form::{Cand, Roll, valid_row};
+use ballot_form::{Cand, MOST_CANDIDATES, Roll, valid_row};
 
 /// Whether the list has each of `c` candidates once.
 #[tactic(auto, using(crate::proofs::Whole::order_from_valid, crate::proofs::Whole::valid_order))]
@@ -35,7 +35,7 @@ pub fn legal_order(roll: &Roll, order: &[Cand], counts: &mut [u32]) -> bool
 /// Whether no one of the set holds fewer ballots.
 fn is_least_held(roll: &Roll, standing: u64, counts: &mut [u32], out: Cand) -> bool
     requires size { length counts.old ≡ roll.now.c }
-    requires few { roll.now.c ≤ 12 }
+    requires few { roll.now.c ≤ MOST_CANDIDATES }
     requires set { standing < 2 ^ roll.now.c }
     requires below { out < roll.now.c }
     ensures { IsTrue result ↔ IsLeast (held_count (stands standing) roll.now.ballots) standing roll.now.c out }
@@ -46,7 +46,7 @@ fn is_least_held(roll: &Roll, standing: u64, counts: &mut [u32], out: Cand) -> b
 
 /// Whether no one of the set has a smaller count.
 fn is_least(counts: &[u32], standing: u64, out: Cand) -> bool
-    requires few { length counts.now ≤ 255 }
+    requires few { length counts.now ≤ u8.MAX }
     requires below { out < length counts.now }
     ensures { IsTrue result ↔ IsLeast (λ x. slice_index counts.now x) standing (length counts.now) out }
 {

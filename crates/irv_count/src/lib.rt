@@ -17,6 +17,3 @@ pub use laws::an_order_by_a_choice_is_one;
 pub use legal::{is_order, legal_order};
 pub use orders::{count_irv, order_against};
 pub use standing::{all_of, stands_in, without};
-
-#[cfg(test)]
-mod tests;

@@ -5,7 +5,7 @@ ghost use Rattle.irv_count.specs.Rounds.{count_to, IsBest, IsEarlier, IsOut};
 
 use crate::held::held_counts;
 use crate::standing::{all_of, stands_in, without};
-use ballot_form::{Cand, Ranking, Roll};
+use ballot_form::{Cand, MOST_CANDIDATES, Ranking, Roll};
 use mov_base::Memory;
 use std::alloc::Global;
 
@@ -44,7 +44,7 @@ fn order_by(alloc: Global, roll: &Roll, against: Option<Cand>) -> Result<Ranking
 /// The next to go out of the set.
 fn next_out(roll: &Roll, standing: u64, counts: &mut [u32], against: Option<Cand>) -> Cand
     requires size { length counts.old ≡ roll.now.c }
-    requires few { roll.now.c ≤ 12 }
+    requires few { roll.now.c ≤ MOST_CANDIDATES }
     requires set { standing < 2 ^ roll.now.c }
     requires some { 0 < count_to roll.now.c (stands standing) }
     ensures { IsOut against (held_count (stands standing) roll.now.ballots) standing roll.now.c result }
@@ -58,7 +58,7 @@ fn next_out(roll: &Roll, standing: u64, counts: &mut [u32], against: Option<Cand
 
 /// The one of the set to go with these counts.
 fn first_of_least(counts: &[u32], standing: u64, against: Option<Cand>) -> Option<Cand>
-    requires { length counts.now ≤ 255 }
+    requires { length counts.now ≤ u8.MAX }
     ensures { IsBest against (λ x. slice_index counts.now x) standing (length counts.now) result }
 {
     let mut best: Option<Cand> = None;

@@ -2,11 +2,11 @@
 ghost use Rattle.std.specs.Prelude.{◌≡◌, ◌≤◌, ◌<◌, ◌-◌, ◌^◌, ℕ, false};
 ghost use Rattle.irv_count.specs.Orders.{stands};
 
-use ballot_form::Cand;
+use ballot_form::{Cand, MOST_CANDIDATES};
 
 /// The set of all candidates below `c`.
 pub fn all_of(c: u8) -> u64
-    requires { c ≤ 12 }
+    requires { c ≤ MOST_CANDIDATES }
     ensures { result ≡ 2 ^ c - 1 }
 {
     (1 << c) - 1

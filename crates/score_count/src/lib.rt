@@ -9,6 +9,3 @@ mod winner;
 
 pub use scores::{borda, plurality};
 pub use winner::score_winner;
-
-#[cfg(test)]
-mod tests;

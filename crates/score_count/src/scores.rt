@@ -1,10 +1,10 @@
 // The scores of the candidates.
-ghost use Rattle.std.specs.Prelude.{◌≡◌, ◌==◌, ◌+◌, ◌*◌, ◌<◌, ◌^◌, if◌then◌else◌, EachIndex, IfOk, IfSome, length, slice_index};
+ghost use Rattle.std.specs.Prelude.{◌≡◌, ◌==◌, ◌+◌, ◌*◌, ◌<◌, ◌^◌, if◌then◌else◌, EachIndex, IfOk, length, slice_index};
 ghost use Rattle.ballot_form.specs.Ballots.{IsValidBallot};
-ghost use Rattle.ballot_form.specs.Scores.{borda_points, is_some_of, plurality_points, score_of};
+ghost use Rattle.ballot_form.specs.Scores.{borda_points, plurality_points, score_of};
 ghost use Rattle.score_count.specs.Winners.{AreScores};
 
-use ballot_form::{Cand, Roll, ScoreList};
+use ballot_form::{Cand, Roll, ScoreList, first_counts};
 use mov_base::Memory;
 use std::alloc::Global;
 
@@ -13,31 +13,17 @@ pub fn plurality(alloc: Global, roll: &Roll) -> Result<ScoreList, Memory>
     ensures { IfOk result (λ scores. AreScores plurality_points roll.now scores) }
 {
     let mut scores = vec![in alloc; 0u64; roll.candidates() as usize]?;
-    add_firsts(roll, scores.as_mut_slice());
+    set_firsts(roll, scores.as_mut_slice());
     Ok(ScoreList::from_vec(scores))
 }
 
-/// Adds to each candidate's number how many ballots put it first.
-#[tactic(auto, using(crate::proofs::Points::plurality_more))]
-fn add_firsts(roll: &Roll, scores: &mut [u64])
-    requires size { length scores.old ≡ roll.now.c }
-    requires none { EachIndex scores.old (λ x. slice_index scores.old x ≡ 0) }
+/// Writes for each candidate how many ballots put it first.
+#[tactic(auto, using(crate::proofs::Points::scored))]
+fn set_firsts(roll: &Roll, scores: &mut [u64])
+    requires { length scores.old ≡ roll.now.c }
     ensures { EachIndex scores.new (λ x. slice_index scores.new x ≡ score_of plurality_points roll.now.ballots x) }
 {
-    for i in 0..roll.len() {
-        give(scores, roll.first(i));
-    }
-}
-
-/// Gives one to the candidate, if there is one.
-fn give(scores: &mut [u64], first: Option<Cand>)
-    requires within { IfSome first (λ x. x < length scores.old) }
-    requires room { IfSome first (λ x. slice_index scores.old x + 1 < 2 ^ 64) }
-    ensures { EachIndex scores.new (λ x. slice_index scores.new x ≡ slice_index scores.old x + (if is_some_of first x then 1 else 0)) }
-{
-    if let Some(x) = first {
-        scores[x as usize] += 1;
-    }
+    first_counts(roll, scores);
 }
 
 /// For each candidate, the sum of the points that the ballots give it by its place.

@@ -7,7 +7,7 @@ use ballot_form::Cand;
 /// The lower-numbered of the candidates with the greatest score. There are 1 to 255 scores.
 pub fn score_winner(scores: &[u64]) -> Cand
     requires some { 1 ≤ length scores.now }
-    requires most { length scores.now ≤ 255 }
+    requires most { length scores.now ≤ u8.MAX }
     ensures { IsScoreWinner scores.now result }
 {
     let mut best: u8 = 0;

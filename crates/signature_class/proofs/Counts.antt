@@ -12,6 +12,7 @@ use Rattle.std.proofs.lemmas.List.Elements.{Contains-append_left, Contains-appen
 use Rattle.std.proofs.lemmas.Option.{get_or_from_slice_get, slice_get_within}
 use Rattle.std.proofs.lemmas.Slice.Eq.{bytes_eq-Decides}
 use Rattle.indexmap.specs.IndexMap.{insert_entry}
+use Rattle.ballot_form.specs.declared.limits.TheConstants.{MOST_BALLOTS}
 use Rattle.mov_base.specs.Sums.{add_up}
 use Rattle.mov_base.proofs.Sums.{add_up-append, add_up-le}
 use Rattle.signature_class.specs.Classes.{AreClasses, IsClassList, IsSeenBefore, add_all, add_class, classes_of, count_of, keys_of, seen}
@@ -214,8 +215,8 @@ count_le same x (c ∷ cs) = elim (bool_of (same x c.0)) [
   | inr e ↦ rw e (omega (arith, count_le same x cs))
 ]
 
-pub few_of_row : (rows : List (List ℕ)) (i : ℕ) (row : List ℕ) (cs : List (List ℕ × ℕ)) → cs ≡ classes_of bytes_eq (take i rows) → i < length rows → length rows ≤ 1000000
-    → count_of bytes_eq row cs + 1 ≤ 1000000
+pub few_of_row : (rows : List (List ℕ)) (i : ℕ) (row : List ℕ) (cs : List (List ℕ × ℕ)) → cs ≡ classes_of bytes_eq (take i rows) → i < length rows → length rows ≤ MOST_BALLOTS
+    → count_of bytes_eq row cs + 1 ≤ MOST_BALLOTS
 few_of_row rows i row cs is within few =
     let are : AreClasses (take i rows) cs = subst (AreClasses (take i rows)) (sym is) (kinds_are_classes (take i rows)) in
     let a = are.counted (λ _. 1) in

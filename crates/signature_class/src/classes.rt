@@ -2,6 +2,7 @@
 ghost use Rattle.std.specs.Prelude.{◌≡◌, ◌≤◌, ◌+◌, ◌<◌, [], length, slice_index_or, OnOk, OnErr, nat_eq};
 ghost use Rattle.signature_class.specs.Classes.{IsClassList, add_class, count_of};
 
+use ballot_form::MOST_BALLOTS;
 use indexmap::IndexMap;
 use mov_base::Memory;
 use std::alloc::Global;
@@ -38,7 +39,7 @@ impl Classes {
     #[tactic(auto, using(crate::proofs::Counts::inserted, crate::proofs::Counts::still_classes))]
     pub fn add(&mut self, key: u64, count: u32) -> Result<(), Memory>
         requires some { 1 ≤ count }
-        requires few { count_of nat_eq key self.old + count ≤ 1000000 }
+        requires few { count_of nat_eq key self.old + count ≤ MOST_BALLOTS }
         ensures added { OnOk result (self.new ≡ add_class nat_eq key count self.old) }
         ensures unchanged { OnErr result (self.new ≡ self.old) }
     {

@@ -14,6 +14,3 @@ mod rolls;
 pub use classes::Classes;
 pub use laws::classes_are_counted;
 pub use rolls::kinds;
-
-#[cfg(test)]
-mod tests;

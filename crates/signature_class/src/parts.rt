@@ -3,7 +3,7 @@ ghost use Rattle.std.specs.Prelude.{◌≡◌, ◌≤◌, ◌+◌, ◌<◌, [], 
 ghost use Rattle.std.specs.Str.{bytes_eq};
 ghost use Rattle.signature_class.specs.Classes.{IsClassList, add_class, count_of};
 
-use ballot_form::Cand;
+use ballot_form::{Cand, MOST_BALLOTS};
 use indexmap::IndexMap;
 use mov_base::Memory;
 use std::alloc::Global;
@@ -40,7 +40,7 @@ impl<'a> Kinds<'a> {
     /// Counts a ballot.
     #[tactic(auto, using(crate::proofs::Counts::inserted_row, crate::proofs::Counts::still_kinds))]
     pub(crate) fn add(&mut self, row: &'a [Cand]) -> Result<(), Memory>
-        requires few { count_of bytes_eq row.now self.old + 1 ≤ 1000000 }
+        requires few { count_of bytes_eq row.now self.old + 1 ≤ MOST_BALLOTS }
         ensures added { OnOk result (self.new ≡ add_class bytes_eq row.now 1 self.old) }
         ensures unchanged { OnErr result (self.new ≡ self.old) }
     {
