@@ -6,12 +6,14 @@ use Rattle.mov_edge.specs.Outside.{Named, Place, next_count}
 pub record FilesState : Type 0 where
   pub told : List Named
   pub at : Option Place
+  pub begun : ℕ
   pub step : ℕ
   pub failing : List ℕ
   pub calls : ℕ
   pub faults : ℕ
 
--- a sink in memory with room for so many bytes, that takes at most `step` a call, and fails at the calls with the listed numbers
+-- a sink in memory with room for so many bytes, that takes at most `step` a call, and fails at the calls with the listed
+-- numbers
 pub record SinkState : Type 0 where
   pub taken : List ℕ
   pub room : ℕ
@@ -20,9 +22,10 @@ pub record SinkState : Type 0 where
   pub calls : ℕ
   pub faults : ℕ
 
--- the files of the system: the one that is being read, and the count of faults
+-- the files of the system: the one that is being read, how many times one was begun, and the count of faults
 pub record DiskState : Type 0 where
   pub at : Option Place
+  pub begun : ℕ
   pub faults : ℕ
 
 -- the call after so many calls is listed

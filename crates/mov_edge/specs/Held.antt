@@ -20,4 +20,5 @@ place_of files (Some o) = place_in (slice_get files o.file) o.given
 -- a spot is within the bytes of a file that is found by its name
 abbrev pub IsWithin : List Named → Option Spot → Type 0
 IsWithin files None = Unit {0}
-IsWithin files (Some o) = (f : Named) × (slice_get files o.file ≡ Some f) × (o.given ≤ length f.bytes) × (file_of f.name files ≡ Some f.bytes)
+IsWithin files (Some o) =
+    (f : Named) × (slice_get files o.file ≡ Some f) × (o.given ≤ length f.bytes) × (file_of f.name files ≡ Some f.bytes)

@@ -11,22 +11,22 @@ use std::marker::Model;
 
 /// A file that is being read, its name, and how many of its bytes were given.
 #[derive(Drop)]
-struct Begun {
+struct OpenFile {
     file: File,
     name: String,
     given: u64,
 }
 
 /// Opens the file of this name. That fails too where no memory is to be had.
-fn opened(rt: HostRuntime, name: &str) -> Result<Begun, Failed>
-    ensures name { IfOk result (λ b. string_bytes b.name ≡ name.now) }
-    ensures given { IfOk result (λ b. b.given ≡ 0) }
+fn opened(rt: HostRuntime, name: &str) -> Result<OpenFile, Failed>
+    ensures name { IfOk result (λ f. string_bytes f.name ≡ name.now) }
+    ensures given { IfOk result (λ f. f.given ≡ 0) }
 {
     let Ok(name) = String::from_str(rt.alloc(), name) else {
         return Err(Failed);
     };
     match File::open(&rt, name.as_str()) {
-        Ok(file) => Ok(Begun {
+        Ok(file) => Ok(OpenFile {
             file,
             name,
             given: 0,
@@ -35,7 +35,7 @@ fn opened(rt: HostRuntime, name: &str) -> Result<Begun, Failed>
     }
 }
 
-impl Begun {
+impl OpenFile {
     /// Gives the next bytes. That fails too where more than 2^64 - 1 bytes of the file might be given.
     fn next(&mut self, buf: &mut [u8]) -> Result<usize, Failed>
         ensures name { string_bytes self.new.name ≡ string_bytes self.old.name }
@@ -60,7 +60,8 @@ impl Begun {
 #[derive(Drop)]
 pub struct DiskFiles {
     rt: HostRuntime,
-    reading: Option<Begun>,
+    reading: Option<OpenFile>,
+    begun: u64,
     faults: u64,
 }
 
@@ -71,17 +72,22 @@ impl Model for DiskFiles {
 
     ghost Value = { DiskState };
 
-    ghost view = { λ d. record { at = option_map (λ b. record { name = string_bytes b.name; given = b.given }) d.reading; faults = d.faults } };
+    ghost view = { λ d. record {
+      at = option_map (λ f. record { name = string_bytes f.name; given = f.given }) d.reading;
+      begun = d.begun;
+      faults = d.faults;
+    } };
 }
 
 impl DiskFiles {
     /// The files of the system, none of which is being read.
     pub fn new(rt: HostRuntime) -> DiskFiles
-        ensures { result ≡ record { at = None; faults = 0 } }
+        ensures { result ≡ record { at = None; begun = 0; faults = 0 } }
     {
         DiskFiles {
             rt,
             reading: None,
+            begun: 0,
             faults: 0,
         }
     }
@@ -92,19 +98,23 @@ impl Files for DiskFiles {
 
     ghost at = { λ d. d.at };
 
+    ghost begun = { λ d. d.begun };
+
     ghost faults = { λ d. d.faults };
 
     fn begin(&mut self, name: &str) -> Result<(), Failed>
-        ensures begun { OnOk result (self.new.at ≡ Some (record { name = name.now; given = 0 })) }
+        ensures at { OnOk result (self.new.at ≡ Some (record { name = name.now; given = 0 })) }
         ensures none { OnErr result (self.new.at ≡ None) }
+        ensures begun { self.new.begun ≡ next_count self.old.begun }
         ensures kept { OnOk result (self.new.faults ≡ self.old.faults) }
         ensures counted { OnErr result (self.new.faults ≡ next_count self.old.faults) }
         ensures later { self.old.faults ≤ self.new.faults }
     {
+        self.begun = self.begun.saturating_add(1);
         self.reading = None;
         match opened(self.rt, name) {
-            Ok(begun) => {
-                self.reading = Some(begun);
+            Ok(file) => {
+                self.reading = Some(file);
                 Ok(())
             }
             Err(_) => Err(raise(&mut self.faults)),
@@ -117,14 +127,15 @@ impl Files for DiskFiles {
         ensures on { (p : Place) → self.old.at ≡ Some p
             → IfOk result (λ n. self.new.at ≡ Some (record { name = p.name; given = p.given + n })) }
         ensures stays { OnErr result (self.new.at ≡ self.old.at) }
+        ensures begun { self.new.begun ≡ self.old.begun }
         ensures kept { OnOk result (self.new.faults ≡ self.old.faults) }
         ensures counted { OnErr result (self.new.faults ≡ next_count self.old.faults) }
         ensures later { self.old.faults ≤ self.new.faults }
     {
-        let Some(begun) = &mut self.reading else {
+        let Some(file) = &mut self.reading else {
             unreachable!();
         };
-        match begun.next(buf) {
+        match file.next(buf) {
             Ok(count) => Ok(count),
             Err(_) => Err(raise(&mut self.faults)),
         }

@@ -31,6 +31,7 @@ pub struct MemFiles {
     alloc: Global,
     files: Vec<File>,
     spot: Option<Spot>,
+    begun: u64,
     step: usize,
     failing: Vec<u32>,
     calls: u64,
@@ -44,7 +45,15 @@ impl Model for MemFiles {
 
     ghost Value = { FilesState };
 
-    ghost view = { λ s. record { told = map named s.files.items; at = place_of (map named s.files.items) s.spot; step = s.step; failing = s.failing.items; calls = s.calls; faults = s.faults } };
+    ghost view = { λ s. record {
+      told = map named s.files.items;
+      at = place_of (map named s.files.items) s.spot;
+      begun = s.begun;
+      step = s.step;
+      failing = s.failing.items;
+      calls = s.calls;
+      faults = s.faults;
+    } };
 
     ghost invariant = { λ s. IsWithin (map named s.files.items) s.spot × (1 ≤ s.step) };
 }
@@ -52,7 +61,8 @@ impl Model for MemFiles {
 /// The number of the first file of this name.
 fn find(files: &[File], name: &str) -> Option<usize>
     ensures { MatchOption result (file_of name.now (map named files.now) ≡ None)
-        (λ i. (f : Named) × (slice_get (map named files.now) i ≡ Some f) × (f.name ≡ name.now) × (file_of name.now (map named files.now) ≡ Some f.bytes)) }
+        (λ i. (f : Named) × (slice_get (map named files.now) i ≡ Some f) × (f.name ≡ name.now)
+        × (file_of name.now (map named files.now) ≡ Some f.bytes)) }
 {
     for i in 0..files.len() {
         let file = &files[i];
@@ -67,12 +77,14 @@ impl MemFiles {
     /// No file, and no call made. It takes no memory.
     pub fn new(alloc: Global, step: usize, failing: Vec<u32>) -> MemFiles
         requires { 1 ≤ step }
-        ensures { result ≡ record { told = []; at = None; step = step; failing = failing.items; calls = 0; faults = 0 } }
+        ensures { result
+            ≡ record { told = []; at = None; begun = 0; step = step; failing = failing.items; calls = 0; faults = 0 } }
     {
         MemFiles {
             alloc,
             files: Vec::new(alloc),
             spot: None,
+            begun: 0,
             step,
             failing,
             calls: 0,
@@ -98,22 +110,27 @@ impl Files for MemFiles {
 
     ghost at = { λ s. s.at };
 
+    ghost begun = { λ s. s.begun };
+
     ghost faults = { λ s. s.faults };
 
     fn begin(&mut self, name: &str) -> Result<(), Failed>
         ensures told { self.new.told ≡ self.old.told }
-        ensures begun { OnOk result (self.new.at ≡ Some (record { name = name.now; given = 0 })) }
+        ensures at { OnOk result (self.new.at ≡ Some (record { name = name.now; given = 0 })) }
         ensures none { OnErr result (self.new.at ≡ None) }
+        ensures begun { self.new.begun ≡ next_count self.old.begun }
         ensures lacks { Lacks (Some self.old.told) name.now → IsErr result }
         ensures cause { Counts self.old.faults self.new.faults result (Lacks (Some self.old.told) name.now) }
 
         // What more this source promises: exactly when it fails, exactly what it counts, and that nothing else changes.
-        ensures fails { IsErr result ↔ (IsNextListed self.old.failing self.old.calls ⊎ Lacks (Some self.old.told) name.now) }
+        ensures fails { IsErr result
+            ↔ (IsNextListed self.old.failing self.old.calls ⊎ Lacks (Some self.old.told) name.now) }
         ensures counted { CountsListed self.old.failing self.old.calls self.old.faults self.new.faults }
         ensures rest { self.new ≡ record self.old
-            { at = self.new.at; calls = next_count self.old.calls; faults = self.new.faults } }
+            { at = self.new.at; begun = next_count self.old.begun; calls = next_count self.old.calls; faults = self.new.faults } }
     {
         self.calls = self.calls.saturating_add(1);
+        self.begun = self.begun.saturating_add(1);
         self.spot = None;
         if is_listed(&self.failing, self.calls) {
             return Err(raise(&mut self.faults));
@@ -134,6 +151,7 @@ impl Files for MemFiles {
         ensures on { (p : Place) → self.old.at ≡ Some p
             → IfOk result (λ n. self.new.at ≡ Some (record { name = p.name; given = p.given + n })) }
         ensures stays { OnErr result (self.new.at ≡ self.old.at) }
+        ensures begun { self.new.begun ≡ self.old.begun }
         ensures bytes { (p : Place) (bytes : List ℕ) → self.old.at ≡ Some p → Tells (Some self.old.told) p.name bytes
             → IfOk result (λ n. GivesNext bytes p.given n buf.new) }
         ensures cause { Counts self.old.faults self.new.faults result ⊥ }

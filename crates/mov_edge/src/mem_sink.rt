@@ -27,7 +27,14 @@ impl Model for MemSink {
 
     ghost Value = { SinkState };
 
-    ghost view = { λ s. record { taken = s.taken.items; room = s.room; step = s.step; failing = s.failing.items; calls = s.calls; faults = s.faults } };
+    ghost view = { λ s. record {
+      taken = s.taken.items;
+      room = s.room;
+      step = s.step;
+      failing = s.failing.items;
+      calls = s.calls;
+      faults = s.faults;
+    } };
 
     ghost invariant = { λ s. (length s.taken.items ≤ s.room) × (s.room ≤ vec_capacity s.taken) × (1 ≤ s.step) };
 }
@@ -82,7 +89,8 @@ impl Sink for MemSink {
         ensures count { IfOk result
             (λ n. n ≡ min (length bytes.now) (min self.old.step (self.old.room - length self.old.taken))) }
         ensures fails { IsErr result
-            ↔ (IsNextListed self.old.failing self.old.calls ⊎ ((length self.old.taken ≡ self.old.room) × (0 < length bytes.now))) }
+            ↔ (IsNextListed self.old.failing self.old.calls
+            ⊎ ((length self.old.taken ≡ self.old.room) × (0 < length bytes.now))) }
         ensures counted { OnErr result (self.new.faults ≡ next_count self.old.faults) }
         ensures rest { self.new ≡ record self.old
             { taken = self.new.taken; calls = next_count self.old.calls; faults = self.new.faults } }

@@ -1,6 +1,6 @@
-// A source of files and a sink, by what they tell and by the count of their faults.
+// A source of files and a sink, by what they tell and by what they count.
 ghost use Rattle.std.specs.Prelude.{◌≡◌, ◌≤◌, ◌<◌, ◌+◌, ℕ, List, Option, Some, None, IfOk, OnOk, OnErr, IsSome, IsErr, length, take};
-ghost use Rattle.mov_edge.specs.Outside.{Named, Place, Lacks, Tells, Counts, GivesNext, Took};
+ghost use Rattle.mov_edge.specs.Outside.{Named, Place, Lacks, Tells, Counts, GivesNext, Took, next_count};
 
 /// A device failed. It counted a fault, or the file that it was asked for is known to be absent.
 #[derive(Clone, Copy, Debug, PartialEq, Eq)]
@@ -14,14 +14,18 @@ pub trait Files {
     /// The file that is being read, if one is, and how many of its bytes were given.
     ghost at: { Self → Option Place };
 
+    /// How many times a file was begun, also where that failed. A count that is at 2^64 - 1 stays there.
+    ghost begun: { Self → ℕ };
+
     /// How many calls failed by a fault of the device. A count that is at 2^64 - 1 stays there.
     ghost faults: { Self → ℕ };
 
     /// Begins to read the file of this name, at its start. After a failure no file is being read.
     fn begin(&mut self, name: &str) -> Result<(), Failed>
         ensures told { told self.new ≡ told self.old }
-        ensures begun { OnOk result (at self.new ≡ Some (record { name = name.now; given = 0 })) }
+        ensures at { OnOk result (at self.new ≡ Some (record { name = name.now; given = 0 })) }
         ensures none { OnErr result (at self.new ≡ None) }
+        ensures begun { begun self.new ≡ next_count (begun self.old) }
         ensures lacks { Lacks (told self.old) name.now → IsErr result }
         ensures cause { Counts (faults self.old) (faults self.new) result (Lacks (told self.old) name.now) };
 
@@ -34,6 +38,7 @@ pub trait Files {
         ensures on { (p : Place) → at self.old ≡ Some p
             → IfOk result (λ n. at self.new ≡ Some (record { name = p.name; given = p.given + n })) }
         ensures stays { OnErr result (at self.new ≡ at self.old) }
+        ensures begun { begun self.new ≡ begun self.old }
         ensures bytes { (p : Place) (bytes : List ℕ) → at self.old ≡ Some p → Tells (told self.old) p.name bytes
             → IfOk result (λ n. GivesNext bytes p.given n buf.new) }
         ensures cause { Counts (faults self.old) (faults self.new) result ⊥ };

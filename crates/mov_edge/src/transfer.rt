@@ -1,6 +1,6 @@
 // A file read whole, and bytes written whole.
 ghost use Rattle.std.specs.Prelude.{◌≡◌, ◌≤◌, ◌<◌, ◌+◌, ◌⊎◌, ◌↔◌, ◌++◌, ℕ, List, Option, Some, None, IfOk, IfSome, OnOk, OnErr, IsErrOf, IsErr, length, take, min};
-ghost use Rattle.mov_edge.specs.Outside.{Lacks, Tells, Counts, Took, Rose, TookMore};
+ghost use Rattle.mov_edge.specs.Outside.{Lacks, Tells, Counts, Took, Rose, TookMore, next_count};
 ghost use Rattle.mov_edge.specs.Loads.{LoadCounts, TookFirst};
 ghost use Rattle.mov_edge.specs.declared.transfer.LoadFault.TheVariants.{Memory, Failed};
 
@@ -48,8 +48,8 @@ fn asked(left: u64) -> usize
 
 /// Reads the file of this name from its start to its end, if it has at most `limit` bytes.
 ///
-/// The file is begun once. Of a longer file one byte more than the limit is taken, and no more. After want of memory, some first
-/// part of the file was taken.
+/// Of a longer file one byte more than the limit is taken, and no more. After want of memory, some first part of the file was
+/// taken.
 pub fn read_whole<F: Files>(
     alloc: Global,
     files: &mut F,
@@ -57,6 +57,9 @@ pub fn read_whole<F: Files>(
     limit: u64,
 ) -> Result<Vec<u8>, LoadFault>
     ensures told { F.told files.new ≡ F.told files.old }
+
+    // Whatever the answer, a file is begun once.
+    ensures begun { F.begun files.new ≡ next_count (F.begun files.old) }
 
     // All bytes, from the start of the file to its end.
     ensures whole { IfOk result (λ v. F.at files.new ≡ Some (record { name = name.now; given = length v.items })) }

@@ -5,4 +5,8 @@
 #[cfg(test)]
 mod base;
 #[cfg(test)]
+mod bound_tree;
+#[cfg(test)]
 mod exact_num;
+#[cfg(test)]
+mod mov_edge;

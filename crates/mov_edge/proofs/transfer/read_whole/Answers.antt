@@ -23,6 +23,7 @@ loop-bytes-preserved g c =
       within = omega arith;
       at = rw len (c.in_ok-count.ensures.on _ c.loop-bytes.invariant.at);
       told = c.read.ensures.told ∙ c.loop-bytes.invariant.told;
+      begun = c.read.ensures.begun ∙ c.loop-bytes.invariant.begun;
       read = λ bytes t. read_more bytes _ _ _ _ bound (c.loop-bytes.invariant.read bytes t) (c.in_ok-count.ensures.bytes _ bytes c.loop-bytes.invariant.at (rw c.loop-bytes.invariant.told t)) more;
       kept = c.in_ok-count.ensures.cause.kept ∙ c.loop-bytes.invariant.kept;
     }
