@@ -10,7 +10,6 @@ mod HeadForms
 mod OutcomeForms
 mod TurnForms
 mod Whole
-mod Faults
 mod Answering
 mod Writing
 mod Fitting

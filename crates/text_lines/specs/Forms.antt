@@ -4,6 +4,7 @@ use Rattle.std.specs.Str.{bytes_eq}
 use Rattle.text_lines.specs.declared.fault.LineFault.{LineFault}
 use Rattle.text_lines.specs.declared.fault.LineFault.TheVariants.{BadLine, BadNumber}
 use Rattle.text_lines.specs.Numbers.{are_digits, number_of}
+use Rattle.text_lines.specs.Faults.{both}
 
 -- a number from low to high
 abbrev pub if_within : ℕ → ℕ → Option ℕ → Result ℕ LineFault
@@ -13,14 +14,6 @@ if_within low high None = Err BadNumber
 -- the number from low to high that a field is
 abbrev pub number_within : ℕ → ℕ → List ℕ → Result ℕ LineFault
 number_within low high field = if are_digits field then if_within low high (number_of field) else Err BadLine
-
--- two parts of a line: a bad line before a bad number
-abbrev pub both : {A B : Type 0} → Result A LineFault → Result B LineFault → Result (A × B) LineFault
-both (Ok x) (Ok y) = Ok (x, y)
-both (Ok x) (Err e) = Err e
-both (Err e) (Ok y) = Err e
-both (Err BadLine) (Err f) = Err BadLine
-both (Err BadNumber) (Err f) = Err f
 
 -- a value made from what was read
 abbrev pub made : {A B : Type 0} → (A → B) → Result A LineFault → Result B LineFault
@@ -42,17 +35,17 @@ behind [] = []
 behind (field ∷ fields) = fields
 
 -- what stands behind a word
-abbrev pub after : {A : Type 0} → List ℕ → (List (List ℕ) → Result A LineFault) → List (List ℕ) → Result A LineFault
-after word form fields = if begins word fields then form (behind fields) else Err BadLine
+abbrev pub behind_word : {A : Type 0} → List ℕ → (List (List ℕ) → Result A LineFault) → List (List ℕ) → Result A LineFault
+behind_word word form fields = if begins word fields then form (behind fields) else Err BadLine
 
--- one number, or two, and then no field
+-- one number, or two each within its limits, and then no field
 abbrev pub one_of : ℕ → ℕ → List (List ℕ) → Result ℕ LineFault
 one_of low high [] = Err BadLine
 one_of low high (field ∷ fields) = alone (number_within low high field) fields
 
-abbrev pub two_of : ℕ → ℕ → ℕ → ℕ → List (List ℕ) → Result (ℕ × ℕ) LineFault
-two_of low high low' high' [] = Err BadLine
-two_of low high low' high' (field ∷ fields) = both (number_within low high field) (one_of low' high' fields)
+abbrev pub two_of : ℕ × ℕ → ℕ × ℕ → List (List ℕ) → Result (ℕ × ℕ) LineFault
+two_of limits limits' [] = Err BadLine
+two_of limits limits' (field ∷ fields) = both (number_within limits.0 limits.1 field) (one_of limits'.0 limits'.1 fields)
 
 -- any count of numbers
 abbrev pub joined : Result (List ℕ) LineFault → Result (List ℕ) LineFault → Result (List ℕ) LineFault

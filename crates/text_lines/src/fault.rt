@@ -1,6 +1,9 @@
 // What is wrong with a line first.
 ghost use Rattle.std.specs.Prelude.{◌≡◌};
-ghost use Rattle.text_lines.specs.Forms.{both};
+ghost use Rattle.text_lines.specs.Faults as spec;
+ghost use Rattle.text_lines.specs.declared.fault.LineFault.TheVariants.{Memory};
+
+use mov_base::Memory;
 
 /// What is wrong with a line.
 #[derive(Clone, Copy, Debug, PartialEq, Eq)]
@@ -9,20 +12,42 @@ pub enum LineFault {
     BadLine,
     /// A number has a leading zero or is outside its limits.
     BadNumber,
+    /// There was no memory for what it says.
+    Memory,
 }
 
-/// Two parts of a line. A bad line goes before a bad number.
+impl LineFault {
+    /// The graver of two faults: want of memory before a bad line, and that before a bad number.
+    fn graver(self, other: LineFault) -> LineFault
+        ensures { result ≡ spec.graver self other }
+    {
+        match (self, other) {
+            (LineFault::Memory, _) | (_, LineFault::Memory) => LineFault::Memory,
+            (LineFault::BadLine, _) | (_, LineFault::BadLine) => LineFault::BadLine,
+            _ => LineFault::BadNumber,
+        }
+    }
+}
+
+impl From<Memory> for LineFault {
+    ghost from_gives = { λ _ fault. fault ≡ Memory };
+
+    fn from(_: Memory) -> LineFault {
+        LineFault::Memory
+    }
+}
+
+/// Two parts of a line, or the graver fault of them.
 pub fn both<A: Drop, B: Drop>(
     first: Result<A, LineFault>,
     second: Result<B, LineFault>,
 ) -> Result<(A, B), LineFault>
-    ensures { result ≡ both first second }
+    ensures { result ≡ spec.both first second }
 {
     match (first, second) {
         (Ok(x), Ok(y)) => Ok((x, y)),
-        (Ok(_), Err(e)) => Err(e),
-        (Err(e), Ok(_)) => Err(e),
-        (Err(LineFault::BadLine), Err(_)) => Err(LineFault::BadLine),
-        (Err(LineFault::BadNumber), Err(e)) => Err(e),
+        (Ok(_), Err(fault)) => Err(fault),
+        (Err(fault), Ok(_)) => Err(fault),
+        (Err(fault), Err(other)) => Err(fault.graver(other)),
     }
 }
