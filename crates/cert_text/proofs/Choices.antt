@@ -5,11 +5,16 @@ use Rattle.std.specs.Str.{bytes_eq}
 use Rattle.std.specs.List.{AllByRecursion}
 use Rattle.std.proofs.lemmas.List.Elements.{All-nil, All-cons, All-head, All-tail}
 use Rattle.std.proofs.lemmas.Slice.Eq.{bytes_eq-Decides}
-use Rattle.text_lines.specs.declared.numbers.LineFault.{LineFault}
-use Rattle.text_lines.specs.declared.numbers.LineFault.TheVariants.{BadLine}
-use Rattle.text_lines.specs.Forms.{made, alone, after}
+use Rattle.text_lines.specs.declared.fault.LineFault.{LineFault}
+use Rattle.text_lines.specs.declared.fault.LineFault.TheVariants.{BadLine}
+use Rattle.text_lines.specs.Forms.{made, alone, behind_word}
 use Rattle.text_lines.proofs.Many.{IsWithin, same_fields}
 use Rattle.text_lines.proofs.Joining.{ArePlain, number_plain}
+
+-- a test that did not fail
+pub guard_ok : {A : Type 0} (b : Bool) (d : LineFault) (r : Result A LineFault) (y : A) → cond b (Err d) r ≡ Ok y → (b ≡ false) × (r ≡ Ok y)
+guard_ok true d r y e = absurd cc
+guard_ok false d r y e = (refl, e)
 
 pub made_ok : {A B : Type 0} (f : A → B) (r : Result A LineFault) (y : B) → made f r ≡ Ok y → (x : A) × (r ≡ Ok x) × (f x ≡ y)
 made_ok f (Ok x) y e = (x, refl, cc)
@@ -24,7 +29,7 @@ pub word_is : (w v : List ℕ) → bytes_eq w v ≡ true → w ≡ v
 word_is w v e = (bytes_eq-Decides w v).0 e
 
 -- what stands behind a word
-pub after_ok : {A : Type 0} (word : List ℕ) (form : List (List ℕ) → Result A LineFault) (fields : List (List ℕ)) (y : A) → after word form fields ≡ Ok y
+pub after_ok : {A : Type 0} (word : List ℕ) (form : List (List ℕ) → Result A LineFault) (fields : List (List ℕ)) (y : A) → behind_word word form fields ≡ Ok y
     → (rest : List (List ℕ)) × (fields ≡ word ∷ rest) × (form rest ≡ Ok y)
 after_ok word form [] y e = absurd cc
 after_ok word form (w ∷ rest) y e = elim (chosen (bytes_eq w word) (form rest) (Err BadLine) (Ok y) e) [
@@ -48,6 +53,6 @@ pub small_within : (high : ℕ) (ns : List ℕ) → All (λ n. n ≤ high) ns �
 small_within high [] h = tt
 small_within high (n ∷ ns) h = ((omega arith, All-head (λ x. x ≤ high) n ns h), small_within high ns (All-tail (λ x. x ≤ high) n ns h))
 
-pub small_plain : (high : ℕ) (ns : List ℕ) → high < 2 ^ 63 → All (λ n. n ≤ high) ns → ArePlain (map decimal ns)
+pub small_plain : (high : ℕ) (ns : List ℕ) → high < 2 ^ 64 → All (λ n. n ≤ high) ns → ArePlain (map decimal ns)
 small_plain high [] small h = tt
 small_plain high (n ∷ ns) small h = (number_plain n (omega (arith, All-head (λ x. x ≤ high) n ns h)), small_plain high ns small (All-tail (λ x. x ≤ high) n ns h))

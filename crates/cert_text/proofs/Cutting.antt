@@ -2,11 +2,11 @@
 use Rattle.std.proofs.Common.{◌≡◌, ℕ, ◌+◌, Bool, true, false, cond, eqb, List, [], ◌∷◌, ◌++◌, length, take, drop, Option, Some, None, Result, Ok, Err, refl, sym, ap, ◌∙◌, subst, append_assoc}
 use Rattle.std.specs.List.{position}
 use Rattle.std.proofs.lemmas.List.{take_at, drop_at, length-append}
-use Rattle.text_lines.specs.declared.numbers.LineFault.{LineFault}
-use Rattle.text_lines.specs.declared.numbers.LineFault.TheVariants.{BadLine, BadNumber}
+use Rattle.text_lines.specs.declared.fault.LineFault.{LineFault}
+use Rattle.text_lines.specs.declared.fault.LineFault.TheVariants.{BadLine, BadNumber, Memory}
 use Rattle.text_lines.proofs.Joining.{lacks, line_end_at, line_end_is}
 use Rattle.cert_text.specs.declared.fault.CertFault.{CertFault}
-use Rattle.cert_text.specs.Reading.{◌>>=◌, Place, cut_at, line_at, at_line}
+use Rattle.cert_text.specs.Reading.{◌>>=◌, TextLeft, cut_at, line_at, at_line}
 
 pub bind_ok : {A B : Type 0} (r : Result A CertFault) (f : A → Result B CertFault) (y : B) → (r >>= f) ≡ Ok y → (x : A) × (r ≡ Ok x) × (f x ≡ Ok y)
 bind_ok (Ok x) f y e = (x, refl, e)
@@ -26,13 +26,14 @@ pub at_line_ok : {A : Type 0} (n : ℕ) (r : Result A LineFault) (x : A) → at_
 at_line_ok n (Ok y) x e = ap (λ z. Ok z) (ok_is y x e)
 at_line_ok n (Err BadLine) x e = absurd cc
 at_line_ok n (Err BadNumber) x e = absurd cc
+at_line_ok n (Err Memory) x e = absurd cc
 
 -- a line that was cut off stands before a line feed
-pub cut_takes : (p : Place) (o : Option ℕ) (y : List ℕ × Place) → position (λ b. eqb b 10) p.1 ≡ o → line_at p ≡ Ok y → (p.1 ≡ y.0 ++ 10 ∷ y.1.1) × (y.1.0 ≡ p.0 + 1)
+pub cut_takes : (p : TextLeft) (o : Option ℕ) (y : List ℕ × TextLeft) → position (λ b. eqb b 10) p.1 ≡ o → line_at p ≡ Ok y → (p.1 ≡ y.0 ++ 10 ∷ y.1.1) × (y.1.0 ≡ p.0 + 1)
 cut_takes p None y at e = absurd (let f : cut_at p None ≡ Ok y = sym (ap (cut_at p) at) ∙ e in cc)
 cut_takes p (Some i) y at e =
     let f : cut_at p (Some i) ≡ Ok y = sym (ap (cut_at p) at) ∙ e in
-    subst (λ (z : List ℕ × Place). (p.1 ≡ z.0 ++ 10 ∷ z.1.1) × (z.1.0 ≡ p.0 + 1)) (ok_is (take i p.1, (p.0 + 1, drop (i + 1) p.1)) y f) (line_end_is 10 p.1 i at, refl)
+    subst (λ (z : List ℕ × TextLeft). (p.1 ≡ z.0 ++ 10 ∷ z.1.1) × (z.1.0 ≡ p.0 + 1)) (ok_is (take i p.1, (p.0 + 1, drop (i + 1) p.1)) y f) (line_end_is 10 p.1 i at, refl)
 
 -- a line without a line feed is cut off again
 pub line_at_again : (n : ℕ) (l rest : List ℕ) → lacks 10 l ≡ true → line_at (n, l ++ 10 ∷ rest) ≡ Ok (l, (n + 1, rest))

@@ -10,6 +10,8 @@ use Rattle.bound_tree.specs.Lines.{SplitInto, BranchBy, CutWith, lines_of, lines
 use Rattle.bound_tree.proofs.Shapes.{plain_Split, plain_Branch, plain_Cut}
 use Rattle.cert_text.specs.CertText.{LineFits}
 use Rattle.cert_text.proofs.Shapes.{all_left, all_right, count_of_kids}
+use Rattle.cert_text.specs.declared.limits.TheConstants.{GREATEST_MULTIPLIER, MOST_MULTIPLIERS}
+use Rattle.row_program.specs.declared.limits.TheConstants.{MOST_KIDS}
 
 abbrev pub TreeFits : Tree → Type 0
 TreeFits tree = All LineFits (lines_of (plain_of tree))
@@ -23,7 +25,7 @@ kids_to [] h = All-nil TreeFits
 kids_to (kid ∷ kids) h =
     All-cons TreeFits kid kids (all_left LineFits (lines_of (plain_of kid)) (lines_of_all (kids_of (map plain_of kids))) h) (kids_to kids (all_right LineFits (lines_of (plain_of kid)) (lines_of_all (kids_of (map plain_of kids))) h))
 
-pub fits_Split : (kids : List Tree) → TreeFits (program.Split kids) ↔ ((length kids ≤ 1560) × All TreeFits kids)
+pub fits_Split : (kids : List Tree) → TreeFits (program.Split kids) ↔ ((length kids ≤ MOST_KIDS) × All TreeFits kids)
 fits_Split kids =
     let plain = kids_of (map plain_of kids) in
     let is : lines_of (plain_of (program.Split kids)) ≡ SplitInto (length kids) ∷ lines_of_all plain = ap lines_of (plain_Split kids) ∙ ap (λ n. SplitInto n ∷ lines_of_all plain) (count_of_kids kids) in (
@@ -43,10 +45,10 @@ fits_Branch f v low high =
       λ h. subst (All LineFits) (sym is) (All-cons LineFits (BranchBy f v) (lower ++ higher) h.0 (All-append LineFits lower higher h.1 h.2)),
     )
 
-pub fits_Cut : (ns : List ℕ) → All (λ n. n < 2 ^ 63) ns → TreeFits (program.Cut ns) ↔ (length ns ≤ 1035)
+pub fits_Cut : (ns : List ℕ) → All (λ n. n < 2 ^ 63) ns → TreeFits (program.Cut ns) ↔ (length ns ≤ MOST_MULTIPLIERS)
 fits_Cut ns small =
     let is : lines_of (plain_of (program.Cut ns)) ≡ CutWith ns ∷ [] = ap lines_of (plain_Cut ns) in
-    let below : All (λ n. n ≤ 9223372036854775807) ns = All-weaker (λ n. n < 2 ^ 63) (λ n. n ≤ 9223372036854775807) (λ n h. omega (arith, h)) ns small in (
+    let below : All (λ n. n ≤ GREATEST_MULTIPLIER) ns = All-weaker (λ n. n < 2 ^ 63) (λ n. n ≤ GREATEST_MULTIPLIER) (λ n h. omega (arith, h)) ns small in (
       λ h. (All-head LineFits (CutWith ns) [] (subst (All LineFits) is h)).0,
       λ h. subst (All LineFits) (sym is) (All-cons LineFits (CutWith ns) [] (h, below) (All-nil LineFits)),
     )

@@ -1,26 +1,31 @@
 -- The lines at the head of a certificate, each by its form.
-use Rattle.std.proofs.Common.{◌≡◌, ℕ, ◌≤◌, ◌<◌, ◌^◌, Bool, true, false, cond, not, eqb, List, [], ◌∷◌, length, map, Result, Ok, Err, refl, sym, ap, ◌∙◌, subst, arith, inl, inr}
+use Rattle.std.proofs.Common.{◌≡◌, ℕ, ◌≤◌, ◌<◌, ◌^◌, Bool, true, false, cond, not, eqb, List, [], ◌∷◌, length, map, Option, Some, None, Result, Ok, Err, refl, sym, ap, ◌∙◌, subst, arith, inl, inr}
 use Rattle.std.specs.Prelude.{All, codes, decimal}
 use Rattle.std.specs.Str.{bytes_eq}
 use Rattle.std.proofs.lemmas.Bool.{eqb-true, eq-eqb}
 use Rattle.std.proofs.lemmas.List.{length-map}
-use Rattle.ballot_form.specs.Rules.{IsRule}
+use Rattle.ballot_form.specs.Rules.{IsRule, name_of_text, text_of_name}
+use Rattle.ballot_form.specs.declared.rule.RuleName.{RuleName}
+use Rattle.ballot_form.specs.declared.rule.RuleName.TheVariants as named
 use Rattle.ballot_form.specs.declared.rule.Rule.{Rule}
 use Rattle.ballot_form.specs.declared.rule.Rule.TheVariants.{Plurality, Borda, Condorcet, Dhondt, Irv}
-use Rattle.text_lines.specs.declared.numbers.LineFault.{LineFault}
-use Rattle.text_lines.specs.declared.numbers.LineFault.TheVariants.{BadLine}
-use Rattle.text_lines.specs.Forms.{number_of, both, made, alone, one_of, two_of, numbers_of, count_of}
-use Rattle.text_lines.proofs.Inverse.{guard_ok, number_takes, number_again}
+use Rattle.text_lines.specs.declared.fault.LineFault.{LineFault}
+use Rattle.text_lines.specs.declared.fault.LineFault.TheVariants.{BadLine}
+use Rattle.text_lines.specs.Faults.{both}
+use Rattle.text_lines.specs.Forms.{number_within, made, alone, one_of, two_of, numbers_of, count_of}
+use Rattle.text_lines.proofs.Inverse.{number_takes, number_again}
 use Rattle.text_lines.proofs.Many.{both_ok, one_takes, one_again, two_takes, two_again, numbers_take, numbers_again, same_fields}
 use Rattle.text_lines.proofs.Joining.{ArePlain, number_plain}
 use Rattle.cert_text.specs.declared.cert.Stop.{Stop}
 use Rattle.cert_text.specs.declared.cert.Stop.TheVariants.{Budget, Depth}
 use Rattle.cert_text.specs.declared.cert.Claim.{Claim}
 use Rattle.cert_text.specs.declared.cert.Claim.TheVariants.{Margin, Fixed, Bounds}
-use Rattle.cert_text.specs.HeadLines.{first_line, rule_of, rule_fields, rule_line, size_line, stop_of, bounds_of, claim_line}
+use Rattle.cert_text.specs.HeadLines.{first_line, named_rule, rule_fields, rule_line, size_line, stop_fields, bounds_fields, claim_line}
 use Rattle.cert_text.specs.CertText.{rule_words, size_words, stop_words, claim_words, SizeFits, StopFits, ClaimFits}
 use Rattle.cert_text.proofs.Forms.{IsForm, IsFieldForm}
-use Rattle.cert_text.proofs.Choices.{made_ok, chosen, word_is, after_ok, alone_ok, is_ok, small_take, small_within}
+use Rattle.cert_text.proofs.Choices.{guard_ok, made_ok, chosen, word_is, after_ok, alone_ok, is_ok, small_take, small_within}
+use Rattle.ballot_form.specs.declared.limits.TheConstants.{MOST_BALLOTS, MOST_CANDIDATES, MOST_SEATS}
+use Rattle.cert_text.specs.declared.limits.TheConstants.{MOST_BUDGET}
 
 -- ---- the first line
 
@@ -48,14 +53,14 @@ pub record AreCounted (many high : ℕ) (fields : List (List ℕ)) (ns : List �
   pub count : length ns ≡ many
   pub small : All (λ n. n ≤ high) ns
 
-pub count_takes : (many high : ℕ) (fields : List (List ℕ)) (ns : List ℕ) → high < 2 ^ 63 → count_of many 0 high fields ≡ Ok ns → AreCounted many high fields ns
+pub count_takes : (many high : ℕ) (fields : List (List ℕ)) (ns : List ℕ) → high < 2 ^ 64 → count_of many 0 high fields ≡ Ok ns → AreCounted many high fields ns
 count_takes many high fields ns fits e =
     let g = guard_ok (not (eqb (length fields) many)) BadLine (numbers_of 0 high fields) ns e in
     let t = numbers_take 0 high fields ns fits g.1 in
     let count : length fields ≡ many = eqb-true _ _ (not_false (eqb (length fields) many) g.0) in
     record { spelled = t.spelled; count = sym (length-map ns decimal) ∙ sym (ap length t.spelled) ∙ count; small = small_take high ns t.within }
 
-pub count_again : (many high : ℕ) (ns : List ℕ) → high < 2 ^ 63 → length ns ≡ many → All (λ n. n ≤ high) ns → count_of many 0 high (map decimal ns) ≡ Ok ns
+pub count_again : (many high : ℕ) (ns : List ℕ) → high < 2 ^ 64 → length ns ≡ many → All (λ n. n ≤ high) ns → count_of many 0 high (map decimal ns) ≡ Ok ns
 count_again many high ns fits count h =
     let same : eqb (length (map decimal ns)) many ≡ true = eq-eqb _ _ (length-map ns decimal ∙ count) in
     ap (λ b. cond (not b) (Err BadLine) (numbers_of 0 high (map decimal ns))) same ∙ numbers_again 0 high ns fits (small_within high ns h)
@@ -73,38 +78,37 @@ plain_rule w v fields r x is words e =
 two_words : (w v w' v' : List ℕ) → w ≡ w' → v ≡ v' → w ∷ v ∷ [] ≡ w' ∷ v' ∷ []
 two_words w v w' v' e e' = same_fields w w' (v ∷ []) (v' ∷ []) e (same_fields v v' [] [] e' refl)
 
-dhondt_takes : (w v : List ℕ) (fields : List (List ℕ)) (x : Rule) → w ≡ codes "rule" → v ≡ codes "dhondt" → made Dhondt (one_of 1 500 fields) ≡ Ok x → IsRuleLine (w ∷ v ∷ fields) x
+dhondt_takes : (w v : List ℕ) (fields : List (List ℕ)) (x : Rule) → w ≡ codes "rule" → v ≡ codes "dhondt" → made Dhondt (one_of 1 MOST_SEATS fields) ≡ Ok x → IsRuleLine (w ∷ v ∷ fields) x
 dhondt_takes w v fields x is is' e =
-    let m = made_ok Dhondt (one_of 1 500 fields) x e in
-    let t = one_takes 1 500 fields m.0 (omega arith) m.1 in
+    let m = made_ok Dhondt (one_of 1 MOST_SEATS fields) x e in
+    let t = one_takes 1 MOST_SEATS fields m.0 (omega arith) m.1 in
     subst (λ y. IsRuleLine (w ∷ v ∷ fields) y) m.2 (same_fields w (codes "rule") (v ∷ fields) (codes "dhondt" ∷ decimal m.0 ∷ []) is (same_fields v (codes "dhondt") fields (decimal m.0 ∷ []) is' t.0), (t.1.0, t.1.1))
 
-rule_of_takes : (w v : List ℕ) (fields : List (List ℕ)) (x : Rule) → w ≡ codes "rule" → rule_of v fields ≡ Ok x → IsRuleLine (w ∷ v ∷ fields) x
-rule_of_takes w v fields x is e =
-    let last : Result Rule LineFault = cond (bytes_eq v (codes "dhondt")) (made Dhondt (one_of 1 500 fields)) (Err BadLine) in
-    let irv : Result Rule LineFault = cond (bytes_eq v (codes "irv")) (alone (Ok Irv) fields) last in
-    let condorcet : Result Rule LineFault = cond (bytes_eq v (codes "condorcet")) (alone (Ok Condorcet) fields) irv in
-    let borda : Result Rule LineFault = cond (bytes_eq v (codes "borda")) (alone (Ok Borda) fields) condorcet in
-    elim (chosen (bytes_eq v (codes "plurality")) (alone (Ok Plurality) fields) borda (Ok x) e) [
-      | inl a ↦ plain_rule w v fields Plurality x tt (two_words w v (codes "rule") (codes "plurality") is (word_is v (codes "plurality") a.0)) a.1
-      | inr a ↦ elim (chosen (bytes_eq v (codes "borda")) (alone (Ok Borda) fields) condorcet (Ok x) a.1) [
-        | inl b ↦ plain_rule w v fields Borda x tt (two_words w v (codes "rule") (codes "borda") is (word_is v (codes "borda") b.0)) b.1
-        | inr b ↦ elim (chosen (bytes_eq v (codes "condorcet")) (alone (Ok Condorcet) fields) irv (Ok x) b.1) [
-          | inl d ↦ plain_rule w v fields Condorcet x tt (two_words w v (codes "rule") (codes "condorcet") is (word_is v (codes "condorcet") d.0)) d.1
-          | inr d ↦ elim (chosen (bytes_eq v (codes "irv")) (alone (Ok Irv) fields) last (Ok x) d.1) [
-            | inl f ↦ plain_rule w v fields Irv x tt (two_words w v (codes "rule") (codes "irv") is (word_is v (codes "irv") f.0)) f.1
-            | inr f ↦ elim (chosen (bytes_eq v (codes "dhondt")) (made Dhondt (one_of 1 500 fields)) (Err BadLine) (Ok x) f.1) [
-              | inl g ↦ dhondt_takes w v fields x is (word_is v (codes "dhondt") g.0) g.1
-              | inr g ↦ absurd (let no = g.1 in cc)
-            ]
-          ]
-        ]
-      ]
+-- a text that names a rule is its name
+name_is : (v : List ℕ) (n : RuleName) → name_of_text v ≡ Some n → v ≡ text_of_name n
+name_is v n e = by_word (codes "plurality") named.Plurality refl _ (λ e.
+    by_word (codes "borda") named.Borda refl _ (λ e.
+    by_word (codes "condorcet") named.Condorcet refl _ (λ e.
+    by_word (codes "dhondt") named.Dhondt refl _ (λ e.
+    by_word (codes "irv") named.Irv refl None (λ e. absurd cc) e) e) e) e) e
+  where
+    by_word : (word : List ℕ) (name : RuleName) → word ≡ text_of_name name → (rest : Option RuleName) → (rest ≡ Some n → v ≡ text_of_name n) → cond (bytes_eq v word) (Some name) rest ≡ Some n → v ≡ text_of_name n
+    by_word word name is rest otherwise e = elim (chosen (bytes_eq v word) (Some name) rest (Some n) e) [
+      | inl a ↦ word_is v word a.0 ∙ is ∙ ap text_of_name (let same = a.1 in cc)
+      | inr a ↦ otherwise a.1
     ]
+
+named_takes : (w v : List ℕ) (o : Option RuleName) (fields : List (List ℕ)) (x : Rule) → w ≡ codes "rule" → name_of_text v ≡ o → named_rule o fields ≡ Ok x → IsRuleLine (w ∷ v ∷ fields) x
+named_takes w v None fields x is at e = absurd cc
+named_takes w v (Some named.Plurality) fields x is at e = plain_rule w v fields Plurality x tt (two_words w v (codes "rule") (codes "plurality") is (name_is v named.Plurality at)) e
+named_takes w v (Some named.Borda) fields x is at e = plain_rule w v fields Borda x tt (two_words w v (codes "rule") (codes "borda") is (name_is v named.Borda at)) e
+named_takes w v (Some named.Condorcet) fields x is at e = plain_rule w v fields Condorcet x tt (two_words w v (codes "rule") (codes "condorcet") is (name_is v named.Condorcet at)) e
+named_takes w v (Some named.Dhondt) fields x is at e = dhondt_takes w v fields x is (name_is v named.Dhondt at) e
+named_takes w v (Some named.Irv) fields x is at e = plain_rule w v fields Irv x tt (two_words w v (codes "rule") (codes "irv") is (name_is v named.Irv at)) e
 
 rule_fields_take : (w : List ℕ) (fields : List (List ℕ)) (x : Rule) → w ≡ codes "rule" → rule_fields fields ≡ Ok x → IsRuleLine (w ∷ fields) x
 rule_fields_take w [] x is e = absurd cc
-rule_fields_take w (v ∷ fields) x is e = rule_of_takes w v fields x is e
+rule_fields_take w (v ∷ fields) x is e = named_takes w v (name_of_text v) fields x is refl e
 
 rule_takes : (fields : List (List ℕ)) (x : Rule) → rule_line fields ≡ Ok x → IsRuleLine fields x
 rule_takes fields x e =
@@ -116,7 +120,7 @@ rule_again Plurality h = refl
 rule_again Borda h = refl
 rule_again Condorcet h = refl
 rule_again Irv h = refl
-rule_again (Dhondt s) h = ap (made Dhondt) (one_again 1 500 s (omega arith) (h.0, h.1))
+rule_again (Dhondt s) h = ap (made Dhondt) (one_again 1 MOST_SEATS s (omega arith) (h.0, h.1))
 
 rule_plain : (x : Rule) → IsRule x → ArePlain (rule_words x)
 rule_plain Plurality h = ((refl, refl), ((refl, refl), tt))
@@ -139,26 +143,26 @@ rule_form = record { takes = rule_takes; again = rule_again; plain = rule_plain;
 
 size_takes : (fields : List (List ℕ)) (x : ℕ × ℕ) → size_line fields ≡ Ok x → (fields ≡ size_words x) × SizeFits x
 size_takes fields x e =
-    let a = after_ok (codes "size") (two_of 1 12 0 1000000) fields x e in
-    let t = two_takes 1 12 0 1000000 a.0 x (omega arith) (omega arith) a.2 in
+    let a = after_ok (codes "size") (two_of (1, MOST_CANDIDATES) (0, MOST_BALLOTS)) fields x e in
+    let t = two_takes 1 MOST_CANDIDATES 0 MOST_BALLOTS a.0 x (omega arith) (omega arith) a.2 in
     (a.1 ∙ ap (λ (fs : List (List ℕ)). codes "size" ∷ fs) t.0, (t.1.0, t.1.1, t.2.1))
 
 pub size_form : IsFieldForm (ℕ × ℕ) size_line size_words SizeFits
 size_form = record {
   takes = size_takes;
-  again = λ x h. two_again 1 12 0 1000000 x.0 x.1 (omega arith) (omega arith) (h.0, h.1) (omega arith, h.2);
+  again = λ x h. two_again 1 MOST_CANDIDATES 0 MOST_BALLOTS x.0 x.1 (omega arith) (omega arith) (h.0, h.1) (omega arith, h.2);
   plain = λ x h. ((refl, refl), (number_plain x.0 (omega (arith, h.1)), (number_plain x.1 (omega (arith, h.2)), tt)));
   some = λ x. (codes "size", decimal x.0 ∷ decimal x.1 ∷ [], refl);
 }
 
 -- ---- claims
 
-stop_takes : (fields : List (List ℕ)) (x : Stop) → stop_of fields ≡ Ok x → (fields ≡ stop_words x) × StopFits x
+stop_takes : (fields : List (List ℕ)) (x : Stop) → stop_fields fields ≡ Ok x → (fields ≡ stop_words x) × StopFits x
 stop_takes [] x e = absurd cc
-stop_takes (w ∷ fields) x e = elim (chosen (bytes_eq w (codes "budget")) (made Budget (one_of 1 40000 fields)) (cond (bytes_eq w (codes "depth")) (alone (Ok Depth) fields) (Err BadLine)) (Ok x) e) [
+stop_takes (w ∷ fields) x e = elim (chosen (bytes_eq w (codes "budget")) (made Budget (one_of 1 MOST_BUDGET fields)) (cond (bytes_eq w (codes "depth")) (alone (Ok Depth) fields) (Err BadLine)) (Ok x) e) [
   | inl a ↦
-      let m = made_ok Budget (one_of 1 40000 fields) x a.1 in
-      let t = one_takes 1 40000 fields m.0 (omega arith) m.1 in
+      let m = made_ok Budget (one_of 1 MOST_BUDGET fields) x a.1 in
+      let t = one_takes 1 MOST_BUDGET fields m.0 (omega arith) m.1 in
       subst (λ y. (w ∷ fields ≡ stop_words y) × StopFits y) m.2 (same_fields w (codes "budget") fields (decimal m.0 ∷ []) (word_is w (codes "budget") a.0) t.0, (t.1.0, t.1.1))
   | inr a ↦ elim (chosen (bytes_eq w (codes "depth")) (alone (Ok Depth) fields) (Err BadLine) (Ok x) a.1) [
     | inl b ↦
@@ -168,8 +172,8 @@ stop_takes (w ∷ fields) x e = elim (chosen (bytes_eq w (codes "budget")) (made
   ]
 ]
 
-stop_again : (x : Stop) → StopFits x → stop_of (stop_words x) ≡ Ok x
-stop_again (Budget n) h = ap (made Budget) (one_again 1 40000 n (omega arith) (h.0, h.1))
+stop_again : (x : Stop) → StopFits x → stop_fields (stop_words x) ≡ Ok x
+stop_again (Budget n) h = ap (made Budget) (one_again 1 MOST_BUDGET n (omega arith) (h.0, h.1))
 stop_again Depth h = refl
 
 stop_plain : (x : Stop) → StopFits x → ArePlain (stop_words x)
@@ -182,15 +186,15 @@ IsClaimLine fields x = (fields ≡ claim_words x) × ClaimFits x
 abbrev bounds : ℕ × (ℕ × Stop) → Claim
 bounds x = Bounds x.0 x.1.0 x.1.1
 
-bounds_take : (w : List ℕ) (fields : List (List ℕ)) (x : Claim) → w ≡ codes "bounds" → bounds_of fields ≡ Ok x → IsClaimLine (w ∷ fields) x
+bounds_take : (w : List ℕ) (fields : List (List ℕ)) (x : Claim) → w ≡ codes "bounds" → bounds_fields fields ≡ Ok x → IsClaimLine (w ∷ fields) x
 bounds_take w [] x is e = absurd cc
 bounds_take w (f ∷ []) x is e = absurd cc
 bounds_take w (f ∷ g ∷ fields) x is e =
-    let m = made_ok bounds (both (number_of 0 1000000 f) (both (number_of 0 1000000 g) (stop_of fields))) x e in
-    let b = both_ok (number_of 0 1000000 f) (both (number_of 0 1000000 g) (stop_of fields)) m.0 m.1 in
-    let d = both_ok (number_of 0 1000000 g) (stop_of fields) m.0.1 b.1 in
-    let low = number_takes 0 1000000 f m.0.0 (omega arith) b.0 in
-    let up = number_takes 0 1000000 g m.0.1.0 (omega arith) d.0 in
+    let m = made_ok bounds (both (number_within 0 MOST_BALLOTS f) (both (number_within 0 MOST_BALLOTS g) (stop_fields fields))) x e in
+    let b = both_ok (number_within 0 MOST_BALLOTS f) (both (number_within 0 MOST_BALLOTS g) (stop_fields fields)) m.0 m.1 in
+    let d = both_ok (number_within 0 MOST_BALLOTS g) (stop_fields fields) m.0.1 b.1 in
+    let low = number_takes 0 MOST_BALLOTS f m.0.0 (omega arith) b.0 in
+    let up = number_takes 0 MOST_BALLOTS g m.0.1.0 (omega arith) d.0 in
     let stop = stop_takes fields m.0.1.1 d.1 in
     subst (λ y. IsClaimLine (w ∷ f ∷ g ∷ fields) y) m.2 (
       same_fields w (codes "bounds") (f ∷ g ∷ fields) (decimal m.0.0 ∷ decimal m.0.1.0 ∷ stop_words m.0.1.1) is
@@ -201,18 +205,18 @@ bounds_take w (f ∷ g ∷ fields) x is e =
 claim_takes : (fields : List (List ℕ)) (x : Claim) → claim_line fields ≡ Ok x → IsClaimLine fields x
 claim_takes [] x e = absurd cc
 claim_takes (w ∷ fields) x e =
-    let last : Result Claim LineFault = cond (bytes_eq w (codes "bounds")) (bounds_of fields) (Err BadLine) in
+    let last : Result Claim LineFault = cond (bytes_eq w (codes "bounds")) (bounds_fields fields) (Err BadLine) in
     let fixed : Result Claim LineFault = cond (bytes_eq w (codes "fixed")) (alone (Ok Fixed) fields) last in
-    elim (chosen (bytes_eq w (codes "margin")) (made Margin (one_of 0 1000000 fields)) fixed (Ok x) e) [
+    elim (chosen (bytes_eq w (codes "margin")) (made Margin (one_of 0 MOST_BALLOTS fields)) fixed (Ok x) e) [
       | inl a ↦
-          let m = made_ok Margin (one_of 0 1000000 fields) x a.1 in
-          let t = one_takes 0 1000000 fields m.0 (omega arith) m.1 in
+          let m = made_ok Margin (one_of 0 MOST_BALLOTS fields) x a.1 in
+          let t = one_takes 0 MOST_BALLOTS fields m.0 (omega arith) m.1 in
           subst (λ y. IsClaimLine (w ∷ fields) y) m.2 (same_fields w (codes "margin") fields (decimal m.0 ∷ []) (word_is w (codes "margin") a.0) t.0, t.1.1)
       | inr a ↦ elim (chosen (bytes_eq w (codes "fixed")) (alone (Ok Fixed) fields) last (Ok x) a.1) [
         | inl b ↦
             let t = alone_ok (Ok Fixed) fields x b.1 in
             subst (λ y. IsClaimLine (w ∷ fields) y) (is_ok Fixed x t.1) (same_fields w (codes "fixed") fields [] (word_is w (codes "fixed") b.0) t.0, tt)
-        | inr b ↦ elim (chosen (bytes_eq w (codes "bounds")) (bounds_of fields) (Err BadLine) (Ok x) b.1) [
+        | inr b ↦ elim (chosen (bytes_eq w (codes "bounds")) (bounds_fields fields) (Err BadLine) (Ok x) b.1) [
           | inl d ↦ bounds_take w fields x (word_is w (codes "bounds") d.0) d.1
           | inr d ↦ absurd (let no = d.1 in cc)
         ]
@@ -220,14 +224,14 @@ claim_takes (w ∷ fields) x e =
     ]
 
 claim_again : (x : Claim) → ClaimFits x → claim_line (claim_words x) ≡ Ok x
-claim_again (Margin k) h = ap (made Margin) (one_again 0 1000000 k (omega arith) (omega arith, h))
+claim_again (Margin k) h = ap (made Margin) (one_again 0 MOST_BALLOTS k (omega arith) (omega arith, h))
 claim_again Fixed h = refl
 claim_again (Bounds low up stop) h =
-    let first : number_of 0 1000000 (decimal low) ≡ Ok low = number_again 0 1000000 low (omega arith) (omega arith) h.0 in
-    let second : number_of 0 1000000 (decimal up) ≡ Ok up = number_again 0 1000000 up (omega arith) (omega arith) h.1 in
+    let first : number_within 0 MOST_BALLOTS (decimal low) ≡ Ok low = number_again 0 MOST_BALLOTS low (omega arith) (omega arith) h.0 in
+    let second : number_within 0 MOST_BALLOTS (decimal up) ≡ Ok up = number_again 0 MOST_BALLOTS up (omega arith) (omega arith) h.1 in
     let third = stop_again stop h.2 in
-    ap (λ n. made bounds (both n (both (number_of 0 1000000 (decimal up)) (stop_of (stop_words stop))))) first
-    ∙ ap (λ n. made bounds (both (Ok low) (both n (stop_of (stop_words stop))))) second
+    ap (λ n. made bounds (both n (both (number_within 0 MOST_BALLOTS (decimal up)) (stop_fields (stop_words stop))))) first
+    ∙ ap (λ n. made bounds (both (Ok low) (both n (stop_fields (stop_words stop))))) second
     ∙ ap (λ n. made bounds (both (Ok low) (both (Ok up) n))) third
 
 claim_plain : (x : Claim) → ClaimFits x → ArePlain (claim_words x)

@@ -10,8 +10,6 @@ mod HeadForms
 mod OutcomeForms
 mod TurnForms
 mod Whole
-mod Faults
 mod Answering
-mod Pieces
 mod Writing
 mod Fitting

@@ -12,7 +12,8 @@ use Rattle.bound_tree.specs.declared.tree.Tree.TheVariants as program
 use Rattle.bound_tree.specs.Plain.{Plain, Kids, Split, Branch, Cut, None, More, kids_of, plain_of}
 use Rattle.bound_tree.specs.Lines.{Line, SplitInto, BranchBy, CutWith, kid_count, lines_of, lines_of_all}
 use Rattle.bound_tree.proofs.Shapes.{plain_Split, plain_Branch, plain_Cut}
-use Rattle.cert_text.specs.CertText.{line_text, tree_words, tree_text}
+use Rattle.text_lines.specs.Words.{line_text}
+use Rattle.cert_text.specs.CertText.{tree_words, tree_text}
 
 abbrev pub one_line : Line → List ℕ
 one_line line = line_text (tree_words line)

@@ -17,36 +17,39 @@ use Rattle.cert_text.specs.declared.cert.Cert.{Cert}
 use Rattle.cert_text.specs.declared.cert.Claim.{Claim}
 use Rattle.cert_text.specs.declared.cert.Claim.TheVariants.{Margin, Fixed, Bounds}
 use Rattle.cert_text.specs.declared.cert.GoalText.{GoalText}
-use Rattle.cert_text.specs.Reading.{◌>>=◌, Place, fault, form_at, many_at}
+use Rattle.cert_text.specs.Faults.{fault}
+use Rattle.cert_text.specs.Reading.{◌>>=◌, TextLeft, form_at, many_at}
 use Rattle.cert_text.specs.HeadLines.{first_line, rule_line, size_line, reported_line, claim_line, goal_line, put_line}
 use Rattle.cert_text.specs.TreeReading.{node_at}
 use Rattle.cert_text.specs.CertReading.{turn_at, body_at, cert_at, first_fault}
-use Rattle.cert_text.specs.CertText.{line_text, rule_words, size_words, outcome_words, claim_words, put_words, goal_words, goal_text, puts_text, tree_text, cert_text, SizeFits, OutcomeFits, ClaimFits, PutFits, GoalFits, TurnFits, BodyFits, IsPrintable, CertText}
+use Rattle.text_lines.specs.Words.{line_text}
+use Rattle.cert_text.specs.CertText.{rule_words, size_words, outcome_words, claim_words, put_words, goal_words, goal_text, puts_text, tree_text, cert_text, SizeFits, OutcomeFits, ClaimFits, PutFits, GoalFits, TurnFits, BodyFits, IsPrintable, CertText}
 use Rattle.cert_text.proofs.Cutting.{bind_ok, ok_is}
 use Rattle.cert_text.proofs.Forms.{IsForm, line_form, form_takes, form_again, many_take, many_again}
 use Rattle.cert_text.proofs.HeadForms.{first_form, rule_form, size_form, claim_form}
 use Rattle.cert_text.proofs.OutcomeForms.{outcome_form}
 use Rattle.cert_text.proofs.TurnForms.{put_form, goal_form}
 use Rattle.cert_text.proofs.Trees.{node_takes, node_again}
+use Rattle.bound_tree.specs.declared.bound.TheConstants.{MOST_DEPTH}
 
 -- ---- each line as a line of a text
 
-abbrev rule_at : Place → Result (Rule × Place) CertFault
+abbrev rule_at : TextLeft → Result (Rule × TextLeft) CertFault
 rule_at p = form_at (λ l. rule_line (fields_of l)) p
 
-abbrev size_at : Place → Result ((ℕ × ℕ) × Place) CertFault
+abbrev size_at : TextLeft → Result ((ℕ × ℕ) × TextLeft) CertFault
 size_at p = form_at (λ l. size_line (fields_of l)) p
 
-abbrev reported_at : Rule → ℕ → Place → Result (Outcome × Place) CertFault
+abbrev reported_at : Rule → ℕ → TextLeft → Result (Outcome × TextLeft) CertFault
 reported_at rule c p = form_at (λ l. reported_line rule c (fields_of l)) p
 
-abbrev claim_at : Place → Result (Claim × Place) CertFault
+abbrev claim_at : TextLeft → Result (Claim × TextLeft) CertFault
 claim_at p = form_at (λ l. claim_line (fields_of l)) p
 
-abbrev goal_at : ℕ → Place → Result (GoalText × Place) CertFault
+abbrev goal_at : ℕ → TextLeft → Result (GoalText × TextLeft) CertFault
 goal_at c p = form_at (λ l. goal_line c (fields_of l)) p
 
-abbrev puts_at : ℕ → Place → Result (List Put × Place) CertFault
+abbrev puts_at : ℕ → TextLeft → Result (List Put × TextLeft) CertFault
 puts_at k p = many_at (form_at (λ l. put_line (fields_of l))) k p
 
 rule_lines : IsForm Rule (λ l. rule_line (fields_of l)) (λ x. line_of (rule_words x)) IsRule
@@ -72,30 +75,30 @@ put_lines = line_form Put put_line put_words PutFits put_form
 abbrev pub Body : Type 0
 Body = Option GoalText × List Put
 
-record TookTurn (c k : ℕ) (p : Place) (y : Body × Place) : Type 0 where
+record TookTurn (c k : ℕ) (p : TextLeft) (y : Body × TextLeft) : Type 0 where
   spelled : p.1 ≡ goal_text y.0.0 ++ (puts_text y.0.1 ++ y.1.1)
   fits : TurnFits c k y.0.0 y.0.1
 
-record TookBody (c : ℕ) (claim : Claim) (p : Place) (y : Body × Place) : Type 0 where
+record TookBody (c : ℕ) (claim : Claim) (p : TextLeft) (y : Body × TextLeft) : Type 0 where
   spelled : p.1 ≡ goal_text y.0.0 ++ (puts_text y.0.1 ++ y.1.1)
   fits : BodyFits c claim y.0.0 y.0.1
 
-turn_takes : (c k : ℕ) (p : Place) (y : Body × Place) → turn_at c k p ≡ Ok y → TookTurn c k p y
+turn_takes : (c k : ℕ) (p : TextLeft) (y : Body × TextLeft) → turn_at c k p ≡ Ok y → TookTurn c k p y
 unfolding turn_at
 turn_takes c k p y e =
     let a = bind_ok (goal_at c p) (λ goal. puts_at k goal.1 >>= λ puts. Ok ((Some goal.0, puts.0), puts.1)) y e in
     let b = bind_ok (puts_at k a.0.1) (λ puts. Ok ((Some a.0.0, puts.0), puts.1)) y a.2 in
     let goal = form_takes GoalText (λ l. goal_line c (fields_of l)) (λ x. line_of (goal_words x)) (GoalFits c) (goal_lines c) p a.0 a.1 in
     let puts = many_take Put (λ l. put_line (fields_of l)) (λ x. line_of (put_words x)) PutFits put_lines k a.0.1 b.0 b.1 in
-    let made : Body × Place = ((Some a.0.0, b.0.0), b.0.1) in
-    subst (λ (z : Body × Place). TookTurn c k p z) (ok_is made y b.2) (record {
+    let made : Body × TextLeft = ((Some a.0.0, b.0.0), b.0.1) in
+    subst (λ (z : Body × TextLeft). TookTurn c k p z) (ok_is made y b.2) (record {
       spelled = goal.spelled ∙ ap (λ (t : List ℕ). line_text (goal_words a.0.0) ++ t) puts.spelled;
       fits = (goal.fits, puts.count, All-from_recursion PutFits b.0.0 puts.fits);
     })
 
-body_takes : (c : ℕ) (claim : Claim) (p : Place) (y : Body × Place) → body_at c claim p ≡ Ok y → TookBody c claim p y
+body_takes : (c : ℕ) (claim : Claim) (p : TextLeft) (y : Body × TextLeft) → body_at c claim p ≡ Ok y → TookBody c claim p y
 unfolding body_at
-body_takes c Fixed p y e = subst (λ (z : Body × Place). TookBody c Fixed p z) (ok_is ((None, []), p) y e) (record { spelled = refl; fits = (refl, refl) })
+body_takes c Fixed p y e = subst (λ (z : Body × TextLeft). TookBody c Fixed p z) (ok_is ((None, []), p) y e) (record { spelled = refl; fits = (refl, refl) })
 body_takes c (Margin k) p y e = let turn = turn_takes c k p y e in record { spelled = turn.spelled; fits = turn.fits }
 body_takes c (Bounds low up stop) p y e = let turn = turn_takes c up p y e in record { spelled = turn.spelled; fits = turn.fits }
 
@@ -107,25 +110,25 @@ abbrev pub cert_of : Rule → (ℕ × ℕ) → Outcome → Claim → Body → Pl
 cert_of rule sizes reported claim body tree = record { rule = rule; c = sizes.0; ballots = sizes.1; reported = reported; claim = claim; goal = body.0; puts = body.1; tree = tree }
 
 -- what is read from each line on
-abbrev pub after_tree : Rule → ℕ × ℕ → Outcome → Claim → Body → Plain × Place → Result Cert CertFault
+abbrev pub after_tree : Rule → ℕ × ℕ → Outcome → Claim → Body → Plain × TextLeft → Result Cert CertFault
 after_tree rule sizes reported claim body tree = cond (eqb (length tree.1.1) 0) (Ok (cert_of rule sizes reported claim body tree.0)) (Err (fault Tail tree.1.0))
 
-abbrev pub after_body : Rule → ℕ × ℕ → Outcome → Claim → Body × Place → Result Cert CertFault
-after_body rule sizes reported claim body = node_at 256 body.1.0 body.1 >>= after_tree rule sizes reported claim body.0
+abbrev pub after_body : Rule → ℕ × ℕ → Outcome → Claim → Body × TextLeft → Result Cert CertFault
+after_body rule sizes reported claim body = node_at MOST_DEPTH body.1.0 body.1 >>= after_tree rule sizes reported claim body.0
 
-abbrev pub after_claim : Rule → ℕ × ℕ → Outcome → Claim × Place → Result Cert CertFault
+abbrev pub after_claim : Rule → ℕ × ℕ → Outcome → Claim × TextLeft → Result Cert CertFault
 after_claim rule sizes reported claim = body_at sizes.0 claim.0 claim.1 >>= after_body rule sizes reported claim.0
 
-abbrev pub after_reported : Rule → ℕ × ℕ → Outcome × Place → Result Cert CertFault
+abbrev pub after_reported : Rule → ℕ × ℕ → Outcome × TextLeft → Result Cert CertFault
 after_reported rule sizes reported = claim_at reported.1 >>= after_claim rule sizes reported.0
 
-abbrev pub after_size : Rule → (ℕ × ℕ) × Place → Result Cert CertFault
+abbrev pub after_size : Rule → (ℕ × ℕ) × TextLeft → Result Cert CertFault
 after_size rule sizes = reported_at rule sizes.0.0 sizes.1 >>= after_reported rule sizes.0
 
-abbrev pub after_rule : Rule × Place → Result Cert CertFault
+abbrev pub after_rule : Rule × TextLeft → Result Cert CertFault
 after_rule rule = size_at rule.1 >>= after_size rule.0
 
-abbrev pub after_first : Unit {0} × Place → Result Cert CertFault
+abbrev pub after_first : Unit {0} × TextLeft → Result Cert CertFault
 after_first top = rule_at top.1 >>= after_rule
 
 pub by_lines : (text : List ℕ) → cert_at text ≡ (form_at first_line (1, text) >>= after_first)
@@ -156,7 +159,7 @@ cert_takes text x e =
     let o = bind_ok (reported_at r.0.0 b.0.0.0 b.0.1) (after_reported r.0.0 b.0.0) x b.2 in
     let d = bind_ok (claim_at o.0.1) (after_claim r.0.0 b.0.0 o.0.0) x o.2 in
     let f = bind_ok (body_at b.0.0.0 d.0.0 d.0.1) (after_body r.0.0 b.0.0 o.0.0 d.0.0) x d.2 in
-    let g = bind_ok (node_at 256 f.0.1.0 f.0.1) (after_tree r.0.0 b.0.0 o.0.0 d.0.0 f.0.0) x f.2 in
+    let g = bind_ok (node_at MOST_DEPTH f.0.1.0 f.0.1) (after_tree r.0.0 b.0.0 o.0.0 d.0.0 f.0.0) x f.2 in
     let made : Cert = cert_of r.0.0 b.0.0 o.0.0 d.0.0 f.0.0 g.0.0 in
     let h = ended_ok (eqb (length g.0.1.1) 0) (fault Tail g.0.1.0) made x g.2 in
     let top = form_takes (Unit {0}) first_line (λ y. codes "movcert 1") (λ y. Unit {0}) first_form (1, text) a.0 a.1 in
@@ -165,7 +168,7 @@ cert_takes text x e =
     let reported = form_takes Outcome (λ l. reported_line r.0.0 b.0.0.0 (fields_of l)) (λ y. line_of (outcome_words y)) (OutcomeFits r.0.0 b.0.0.0) (reported_lines r.0.0 b.0.0.0) b.0.1 o.0 o.1 in
     let claim = form_takes Claim (λ l. claim_line (fields_of l)) (λ y. line_of (claim_words y)) ClaimFits claim_lines o.0.1 d.0 d.1 in
     let body = body_takes b.0.0.0 d.0.0 d.0.1 f.0 f.1 in
-    let tree = node_takes 256 f.0.1.0 f.0.1 g.0 g.1 in
+    let tree = node_takes MOST_DEPTH f.0.1.0 f.0.1 g.0 g.1 in
     let nothing : g.0.1.1 ≡ [] = nil_from_length g.0.1.1 (eqb-true _ _ h.0) in
     let rest : f.0.1.1 ≡ tree_text g.0.0 = tree.text ∙ ap (λ (t : List ℕ). tree_text g.0.0 ++ t) nothing ∙ append-nil (tree_text g.0.0) in
     let at_body : d.0.1.1 ≡ from_body made = body.spelled ∙ ap (λ (t : List ℕ). goal_text f.0.0.0 ++ (puts_text f.0.0.1 ++ t)) rest in
@@ -222,7 +225,7 @@ cert_again x h =
     let reported = form_again Outcome (λ l. reported_line x.rule x.c (fields_of l)) (λ y. line_of (outcome_words y)) (OutcomeFits x.rule x.c) (reported_lines x.rule x.c) 4 x.reported (from_claim x) h.reported in
     let claim = form_again Claim (λ l. claim_line (fields_of l)) (λ y. line_of (claim_words y)) ClaimFits claim_lines 5 x.claim (from_body x) h.claim in
     let body = body_again x.c x.claim x.goal x.puts 6 last h.body in
-    let tree : node_at 256 body.0 (body.0, last) ≡ Ok (x.tree, (body.0 + size x.tree, [])) = ap (λ (t : List ℕ). node_at 256 body.0 (body.0, t)) (sym (append-nil last)) ∙ node_again 256 body.0 x.tree body.0 [] h.depth h.lines (omega (arith, h.nodes)) in
+    let tree : node_at MOST_DEPTH body.0 (body.0, last) ≡ Ok (x.tree, (body.0 + size x.tree, [])) = ap (λ (t : List ℕ). node_at MOST_DEPTH body.0 (body.0, t)) (sym (append-nil last)) ∙ node_again MOST_DEPTH body.0 x.tree body.0 [] h.depth h.lines (omega (arith, h.nodes)) in
     by_lines (cert_text x)
     ∙ ap (λ r. r >>= after_first) top
     ∙ ap (λ r. r >>= after_rule) rule

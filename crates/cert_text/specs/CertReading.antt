@@ -8,19 +8,21 @@ use Rattle.cert_text.specs.declared.cert.Cert.{Cert}
 use Rattle.cert_text.specs.declared.cert.Claim.{Claim}
 use Rattle.cert_text.specs.declared.cert.Claim.TheVariants.{Margin, Fixed, Bounds}
 use Rattle.cert_text.specs.declared.cert.GoalText.{GoalText}
-use Rattle.cert_text.specs.Reading.{◌>>=◌, Place, fault, form_at, many_at}
+use Rattle.cert_text.specs.Faults.{fault}
+use Rattle.cert_text.specs.Reading.{◌>>=◌, TextLeft, form_at, many_at}
 use Rattle.cert_text.specs.HeadLines.{first_line, rule_line, size_line, reported_line, claim_line, goal_line, put_line}
 use Rattle.cert_text.specs.TreeReading.{node_at}
+use Rattle.bound_tree.specs.declared.bound.TheConstants.{MOST_DEPTH}
 
 -- a goal and so many replacements
-unfoldable pub turn_at : ℕ → ℕ → Place → Result ((Option GoalText × List Put) × Place) CertFault
+unfoldable pub turn_at : ℕ → ℕ → TextLeft → Result ((Option GoalText × List Put) × TextLeft) CertFault
 turn_at c k p = do
   goal ← form_at (λ l. goal_line c (fields_of l)) p
   puts ← many_at (form_at (λ l. put_line (fields_of l))) k goal.1
   Ok ((Some goal.0, puts.0), puts.1)
 
 -- the goal and the replacements of a claim
-unfoldable pub body_at : ℕ → Claim → Place → Result ((Option GoalText × List Put) × Place) CertFault
+unfoldable pub body_at : ℕ → Claim → TextLeft → Result ((Option GoalText × List Put) × TextLeft) CertFault
 body_at c Fixed p = Ok ((None, []), p)
 body_at c (Margin k) p = turn_at c k p
 body_at c (Bounds low up stop) p = turn_at c up p
@@ -34,7 +36,7 @@ cert_at text = do
   reported ← form_at (λ l. reported_line rule.0 size.0.0 (fields_of l)) size.1
   claim ← form_at (λ l. claim_line (fields_of l)) reported.1
   body ← body_at size.0.0 claim.0 claim.1
-  tree ← node_at 256 body.1.0 body.1
+  tree ← node_at MOST_DEPTH body.1.0 body.1
   if length tree.1.1 == 0
       then Ok (record { rule = rule.0; c = size.0.0; ballots = size.0.1; reported = reported.0; claim = claim.0; goal = body.0.0; puts = body.0.1; tree = tree.0 })
       else Err (fault Tail tree.1.0)

@@ -1,9 +1,9 @@
 -- The text of a certificate.
 use Rattle.std.specs.Prelude.{◌≡◌, ℕ, ◌≤◌, All, List, [], ◌∷◌, ◌++◌, length, map, codes, decimal, Option, Some, None}
 use Rattle.std.specs.List.{flat_map}
-use Rattle.ballot_form.specs.Rules.{IsRule}
+use Rattle.ballot_form.specs.Rules.{IsRule, name_of_rule, text_of_name}
 use Rattle.ballot_form.specs.declared.rule.Rule.{Rule}
-use Rattle.ballot_form.specs.declared.rule.Rule.TheVariants.{Plurality, Borda, Condorcet, Dhondt, Irv}
+use Rattle.ballot_form.specs.declared.rule.Rule.TheVariants.{Condorcet, Dhondt}
 use Rattle.ballot_form.specs.declared.outcome.Outcome.{Outcome}
 use Rattle.ballot_form.specs.declared.outcome.Outcome.TheVariants.{Winner, NoWinner, Seats}
 use Rattle.alteration_model.specs.declared.puts.Put.{Put}
@@ -11,7 +11,7 @@ use Rattle.row_program.specs.declared.Feature.TheVariants.{From, Arc}
 use Rattle.bound_tree.specs.Plain.{Plain}
 use Rattle.bound_tree.specs.Nodes.{size, height}
 use Rattle.bound_tree.specs.Lines.{Line, SplitInto, BranchBy, CutWith, lines_of}
-use Rattle.text_lines.specs.Words.{line_of}
+use Rattle.text_lines.specs.Words.{line_text}
 use Rattle.cert_text.specs.declared.cert.Stop.{Stop}
 use Rattle.cert_text.specs.declared.cert.Stop.TheVariants.{Budget, Depth}
 use Rattle.cert_text.specs.declared.cert.Claim.{Claim}
@@ -19,19 +19,20 @@ use Rattle.cert_text.specs.declared.cert.Claim.TheVariants.{Margin, Fixed, Bound
 use Rattle.cert_text.specs.declared.cert.GoalText.{GoalText}
 use Rattle.cert_text.specs.declared.cert.GoalText.TheVariants.{Order, Pair, Cover}
 use Rattle.cert_text.specs.declared.cert.Cert.{Cert}
-
--- a line of these fields, ended by a line feed
-abbrev pub line_text : List (List ℕ) → List ℕ
-line_text fields = line_of fields ++ 10 ∷ []
+use Rattle.ballot_form.specs.declared.limits.TheConstants.{MOST_BALLOTS, MOST_CANDIDATES, MOST_SEATS}
+use Rattle.bound_tree.specs.declared.bound.TheConstants.{MOST_DEPTH, MOST_NODES}
+use Rattle.cert_text.specs.declared.limits.TheConstants.{GREATEST_CANDIDATE, GREATEST_KEY, GREATEST_MULTIPLIER, GREATEST_VALUE, LAST_ENTERED, LAST_LEFT, MOST_BUDGET, MOST_MULTIPLIERS}
+use Rattle.row_program.specs.declared.limits.TheConstants.{MOST_KIDS}
 
 -- ---- the fields of each line
 
+-- the seats of a rule, where it has them
+abbrev pub seats_words : Rule → List (List ℕ)
+seats_words (Dhondt seats) = decimal seats ∷ []
+seats_words rule = []
+
 abbrev pub rule_words : Rule → List (List ℕ)
-rule_words Plurality = codes "rule" ∷ codes "plurality" ∷ []
-rule_words Borda = codes "rule" ∷ codes "borda" ∷ []
-rule_words Condorcet = codes "rule" ∷ codes "condorcet" ∷ []
-rule_words Irv = codes "rule" ∷ codes "irv" ∷ []
-rule_words (Dhondt seats) = codes "rule" ∷ codes "dhondt" ∷ decimal seats ∷ []
+rule_words rule = codes "rule" ∷ text_of_name (name_of_rule rule) ∷ seats_words rule
 
 abbrev pub size_words : ℕ × ℕ → List (List ℕ)
 size_words x = codes "size" ∷ decimal x.0 ∷ decimal x.1 ∷ []
@@ -91,32 +92,32 @@ cert_text cert =
 -- ---- the limits
 
 abbrev pub SizeFits : ℕ × ℕ → Type 0
-SizeFits x = (1 ≤ x.0) × (x.0 ≤ 12) × (x.1 ≤ 1000000)
+SizeFits x = (1 ≤ x.0) × (x.0 ≤ MOST_CANDIDATES) × (x.1 ≤ MOST_BALLOTS)
 
 -- an outcome of the rule: seats under D'Hondt, one for each candidate, no winner under Condorcet's rule alone
 abbrev pub OutcomeFits : Rule → ℕ → Outcome → Type 0
-OutcomeFits (Dhondt total) c (Seats seats) = (length seats ≡ c) × All (λ s. s ≤ 500) seats
+OutcomeFits (Dhondt total) c (Seats seats) = (length seats ≡ c) × All (λ s. s ≤ MOST_SEATS) seats
 OutcomeFits (Dhondt total) c outcome = ⊥
 OutcomeFits Condorcet c NoWinner = Unit {0}
-OutcomeFits rule c (Winner x) = x ≤ 255
+OutcomeFits rule c (Winner x) = x ≤ GREATEST_CANDIDATE
 OutcomeFits rule c outcome = ⊥
 
 abbrev pub StopFits : Stop → Type 0
-StopFits (Budget nodes) = (1 ≤ nodes) × (nodes ≤ 40000)
+StopFits (Budget nodes) = (1 ≤ nodes) × (nodes ≤ MOST_BUDGET)
 StopFits Depth = Unit {0}
 
 abbrev pub ClaimFits : Claim → Type 0
-ClaimFits (Margin k) = k ≤ 1000000
+ClaimFits (Margin k) = k ≤ MOST_BALLOTS
 ClaimFits Fixed = Unit {0}
-ClaimFits (Bounds low up stop) = (low ≤ 1000000) × (up ≤ 1000000) × StopFits stop
+ClaimFits (Bounds low up stop) = (low ≤ MOST_BALLOTS) × (up ≤ MOST_BALLOTS) × StopFits stop
 
 abbrev pub GoalFits : ℕ → GoalText → Type 0
-GoalFits c (Order order) = (length order ≡ c) × All (λ x. x ≤ 255) order
-GoalFits c (Pair g l) = (g ≤ 255) × (l ≤ 255)
-GoalFits c (Cover x) = x ≤ 255
+GoalFits c (Order order) = (length order ≡ c) × All (λ x. x ≤ GREATEST_CANDIDATE) order
+GoalFits c (Pair g l) = (g ≤ GREATEST_CANDIDATE) × (l ≤ GREATEST_CANDIDATE)
+GoalFits c (Cover x) = x ≤ GREATEST_CANDIDATE
 
 abbrev pub PutFits : Put → Type 0
-PutFits put = (put.number ≤ 1000000) × All (λ x. x ≤ 255) put.ballot
+PutFits put = (put.number ≤ MOST_BALLOTS) × All (λ x. x ≤ GREATEST_CANDIDATE) put.ballot
 
 -- a goal and so many replacements
 abbrev pub TurnFits : ℕ → ℕ → Option GoalText → List Put → Type 0
@@ -130,10 +131,10 @@ BodyFits c (Margin k) goal puts = TurnFits c k goal puts
 BodyFits c (Bounds low up stop) goal puts = TurnFits c up goal puts
 
 abbrev pub LineFits : Line → Type 0
-LineFits (SplitInto kids) = kids ≤ 1560
-LineFits (BranchBy (From key) value) = (key ≤ 1099511627775) × (value ≤ 999999)
-LineFits (BranchBy (Arc u x) value) = (u ≤ 39) × (1 ≤ x) × (x ≤ 40) × (value ≤ 999999)
-LineFits (CutWith numbers) = (length numbers ≤ 1035) × All (λ n. n ≤ 9223372036854775807) numbers
+LineFits (SplitInto kids) = kids ≤ MOST_KIDS
+LineFits (BranchBy (From key) value) = (key ≤ GREATEST_KEY) × (value ≤ GREATEST_VALUE)
+LineFits (BranchBy (Arc u x) value) = (u ≤ LAST_LEFT) × (1 ≤ x) × (x ≤ LAST_ENTERED) × (value ≤ GREATEST_VALUE)
+LineFits (CutWith numbers) = (length numbers ≤ MOST_MULTIPLIERS) × All (λ n. n ≤ GREATEST_MULTIPLIER) numbers
 
 -- a certificate within the limits of the grammar
 pub record IsPrintable (cert : Cert) : Type 0 where
@@ -143,8 +144,8 @@ pub record IsPrintable (cert : Cert) : Type 0 where
   pub claim : ClaimFits cert.claim
   pub body : BodyFits cert.c cert.claim cert.goal cert.puts
   pub lines : All LineFits (lines_of cert.tree)
-  pub depth : height cert.tree ≤ 256
-  pub nodes : size cert.tree ≤ 100000
+  pub depth : height cert.tree ≤ MOST_DEPTH
+  pub nodes : size cert.tree ≤ MOST_NODES
 
 -- these bytes are the text of this certificate
 pub record CertText (bytes : List ℕ) (cert : Cert) : Type 0 where

@@ -1,51 +1,43 @@
 // Reading a certificate.
 ghost use Rattle.std.specs.Prelude.{◌≡◌, ◌<◌, ◌≤◌, ◌+◌, ◌^◌, OnOk, IfOk, IfErr, Ok};
 ghost use Rattle.text_lines.specs.Words.{fields_of};
-ghost use Rattle.cert_text.specs.Reading.{Gives, Answers, form_at, many_at};
-ghost use Rattle.cert_text.specs.HeadLines.{reported_line, goal_line, put_line, puts_of};
+ghost use Rattle.cert_text.specs.Reading.{ReadsPart, ReadsCert, form_at, many_at, text_left};
+ghost use Rattle.cert_text.specs.HeadLines.{reported_line, goal_line, put_line, put_count};
 ghost use Rattle.cert_text.specs.CertReading.{turn_at, body_at, cert_at};
 ghost use Rattle.cert_text.specs.CertText.{CertText};
 ghost use Rattle.cert_text.specs.declared.cert.Cert.{Cert};
 ghost use Rattle.cert_text.specs.declared.fault.CertKind.TheVariants.{Memory};
 
 use crate::cert::{Cert, Claim, GoalText};
-use crate::fault::{CertFault, CertKind, ReadError};
+use crate::fault::{CertFault, CertKind};
 use crate::head_line::{read_claim, read_first, read_reported, read_rule, read_size};
 use crate::reader::{Reader, at_number, fault};
 use crate::tree_read::read_node;
 use crate::turn_line::{read_goal, read_put};
 use alteration_model::{Put, PutList};
-use ballot_form::{Outcome, Rule};
+use ballot_form::{MOST_BALLOTS, Outcome, Rule};
 use bound_tree::{BoundTree, MOST_DEPTH};
 use std::alloc::Global;
 
 /// The certificate that a text is, or the first fault of the text with its line. The text is read once, line by line, and
 /// not copied.
-#[tactic(auto, using(crate::proofs::Answering::or_memory))]
 pub fn read_cert(alloc: Global, text: &[u8]) -> Result<Cert, CertFault>
     // What is read has this text.
     ensures found { IfOk result (λ cert. CertText text.now cert) }
     // What has this text is read, unless memory runs out.
-    ensures only { (cert : Cert) → CertText text.now cert → Answers result (Ok cert) }
+    ensures only { (cert : Cert) → CertText text.now cert → ReadsCert result (Ok cert) }
     // Which fault it is, and in which line.
-    ensures exact { Answers result (cert_at text.now) }
+    ensures exact { ReadsCert result (cert_at text.now) }
     // Where memory ran out no line is named.
     ensures memory { IfErr result (λ f. f.kind ≡ Memory → f.line ≡ 0) }
 {
-    match read_all(alloc, text) {
-        Ok(cert) => Ok(cert),
-        Err(ReadError::Fault(fault)) => Err(fault),
-        Err(ReadError::Memory) => Err(CertFault {
-            kind: CertKind::Memory,
-            line: 0,
-        }),
-    }
+    read_all(alloc, text)
 }
 
 /// Reads all lines.
 #[tactic(auto, using(crate::proofs::Trees::shallow), unfolding(crate::specs::CertReading::cert_at))]
-fn read_all(alloc: Global, text: &[u8]) -> Result<Cert, ReadError>
-    ensures { Gives (λ x. x) result (cert_at text.now) }
+fn read_all(alloc: Global, text: &[u8]) -> Result<Cert, CertFault>
+    ensures { ReadsPart (λ x. x) result (cert_at text.now) }
 {
     let mut reader = Reader {
         rest: text,
@@ -83,15 +75,14 @@ fn next_reported(
     rule: Rule,
     c: u8,
     reader: &mut Reader<'_>,
-) -> Result<Outcome, ReadError>
+) -> Result<Outcome, CertFault>
     requires { reader.old.number + 1 < 2 ^ 32 }
-    ensures reported { Gives (λ x. (x, (reader.new.number, reader.new.rest.now))) result (form_at (λ l. reported_line rule c (fields_of l)) (reader.old.number, reader.old.rest.now)) }
+    ensures reported { ReadsPart (λ x. (x, text_left reader.new)) result (form_at (λ l. reported_line rule c (fields_of l)) (text_left reader.old)) }
     ensures number { OnOk result (reader.new.number ≡ reader.old.number + 1) }
 {
     let number = reader.number;
     let line = reader.line()?;
-    let reported = read_reported(alloc, rule, c, line)?;
-    at_number(number, reported)
+    at_number(number, read_reported(alloc, rule, c, line))
 }
 
 /// The goal and the replacements of a claim.
@@ -101,10 +92,10 @@ fn read_body(
     c: u8,
     claim: Claim,
     reader: &mut Reader<'_>,
-) -> Result<(Option<GoalText>, PutList), ReadError>
+) -> Result<(Option<GoalText>, PutList), CertFault>
     requires number { reader.old.number ≤ 6 }
-    requires few { puts_of claim ≤ 1000000 }
-    ensures body { Gives (λ x. (x, (reader.new.number, reader.new.rest.now))) result (body_at c claim (reader.old.number, reader.old.rest.now)) }
+    requires few { put_count claim ≤ MOST_BALLOTS }
+    ensures body { ReadsPart (λ x. (x, text_left reader.new)) result (body_at c claim (text_left reader.old)) }
     ensures number { OnOk result (reader.new.number < 2 ^ 21) }
 {
     match claim {
@@ -121,10 +112,10 @@ fn read_turn(
     c: u8,
     count: u32,
     reader: &mut Reader<'_>,
-) -> Result<(Option<GoalText>, PutList), ReadError>
+) -> Result<(Option<GoalText>, PutList), CertFault>
     requires number { reader.old.number ≤ 6 }
-    requires few { count ≤ 1000000 }
-    ensures turn { Gives (λ x. (x, (reader.new.number, reader.new.rest.now))) result (turn_at c count (reader.old.number, reader.old.rest.now)) }
+    requires few { count ≤ MOST_BALLOTS }
+    ensures turn { ReadsPart (λ x. (x, text_left reader.new)) result (turn_at c count (text_left reader.old)) }
     ensures number { OnOk result (reader.new.number < 2 ^ 21) }
 {
     let goal = next_goal(alloc, c, reader)?;
@@ -133,21 +124,20 @@ fn read_turn(
 }
 
 /// The next line, which tells the goal.
-fn next_goal(alloc: Global, c: u8, reader: &mut Reader<'_>) -> Result<GoalText, ReadError>
+fn next_goal(alloc: Global, c: u8, reader: &mut Reader<'_>) -> Result<GoalText, CertFault>
     requires { reader.old.number + 1 < 2 ^ 32 }
-    ensures goal { Gives (λ x. (x, (reader.new.number, reader.new.rest.now))) result (form_at (λ l. goal_line c (fields_of l)) (reader.old.number, reader.old.rest.now)) }
+    ensures goal { ReadsPart (λ x. (x, text_left reader.new)) result (form_at (λ l. goal_line c (fields_of l)) (text_left reader.old)) }
     ensures number { OnOk result (reader.new.number ≡ reader.old.number + 1) }
 {
     let number = reader.number;
     let line = reader.line()?;
-    let goal = read_goal(alloc, c, line)?;
-    at_number(number, goal)
+    at_number(number, read_goal(alloc, c, line))
 }
 
 /// So many replacements.
-fn read_puts(alloc: Global, count: u32, reader: &mut Reader<'_>) -> Result<PutList, ReadError>
+fn read_puts(alloc: Global, count: u32, reader: &mut Reader<'_>) -> Result<PutList, CertFault>
     requires { reader.old.number + count < 2 ^ 32 }
-    ensures puts { Gives (λ xs. (xs, (reader.new.number, reader.new.rest.now))) result (many_at (form_at (λ l. put_line (fields_of l))) count (reader.old.number, reader.old.rest.now)) }
+    ensures puts { ReadsPart (λ xs. (xs, text_left reader.new)) result (many_at (form_at (λ l. put_line (fields_of l))) count (text_left reader.old)) }
     ensures number { OnOk result (reader.new.number ≡ reader.old.number + count) }
 {
     let mut puts = PutList::new(alloc);
@@ -159,13 +149,12 @@ fn read_puts(alloc: Global, count: u32, reader: &mut Reader<'_>) -> Result<PutLi
 }
 
 /// The next line, which tells a replacement.
-fn next_put(alloc: Global, reader: &mut Reader<'_>) -> Result<Put, ReadError>
+fn next_put(alloc: Global, reader: &mut Reader<'_>) -> Result<Put, CertFault>
     requires { reader.old.number + 1 < 2 ^ 32 }
-    ensures put { Gives (λ x. (x, (reader.new.number, reader.new.rest.now))) result (form_at (λ l. put_line (fields_of l)) (reader.old.number, reader.old.rest.now)) }
+    ensures put { ReadsPart (λ x. (x, text_left reader.new)) result (form_at (λ l. put_line (fields_of l)) (text_left reader.old)) }
     ensures number { OnOk result (reader.new.number ≡ reader.old.number + 1) }
 {
     let number = reader.number;
     let line = reader.line()?;
-    let put = read_put(alloc, line)?;
-    at_number(number, put)
+    at_number(number, read_put(alloc, line))
 }

@@ -1,6 +1,6 @@
 // Why a text is no certificate.
 ghost use Rattle.std.specs.Prelude.{◌≡◌};
-ghost use Rattle.cert_text.specs.declared.fault.ReadError.TheVariants.{Memory};
+ghost use Rattle.cert_text.specs.Faults.{cert_kind_text, no_memory};
 
 use std::alloc::{AllocError, AllocFailed};
 use thiserror::Error;
@@ -32,6 +32,23 @@ pub enum CertKind {
     Memory,
 }
 
+impl CertKind {
+    /// What is said of the fault.
+    pub fn text(self) -> &'static str
+        ensures { result.now ≡ cert_kind_text self }
+    {
+        match self {
+            CertKind::BadLine => "bad line",
+            CertKind::BadNumber => "bad number",
+            CertKind::TooDeep => "too deep",
+            CertKind::TreeEnds => "tree ends",
+            CertKind::Tail => "tail",
+            CertKind::TooManyNodes => "too many nodes",
+            CertKind::Memory => "out of memory",
+        }
+    }
+}
+
 /// The first fault of a text.
 #[derive(Clone, Copy, Debug, PartialEq, Eq)]
 pub struct CertFault {
@@ -41,25 +58,28 @@ pub struct CertFault {
     pub line: u32,
 }
 
-/// Why reading ended: for want of memory, or by a fault of the text.
-#[derive(Debug, Drop)]
-pub(crate) enum ReadError {
-    Memory,
-    Fault(CertFault),
-}
+impl From<AllocError> for CertFault {
+    ghost from_gives = { λ _ fault. fault ≡ no_memory };
 
-impl From<AllocError> for ReadError {
-    ghost from_gives = { λ _ e. e ≡ Memory };
-
-    fn from(_: AllocError) -> ReadError {
-        ReadError::Memory
+    fn from(_: AllocError) -> CertFault {
+        no_memory()
     }
 }
 
-impl<T: Drop> From<AllocFailed<T>> for ReadError {
-    ghost from_gives = { λ _ e. e ≡ Memory };
+impl<T: Drop> From<AllocFailed<T>> for CertFault {
+    ghost from_gives = { λ _ fault. fault ≡ no_memory };
 
-    fn from(_: AllocFailed<T>) -> ReadError {
-        ReadError::Memory
+    fn from(_: AllocFailed<T>) -> CertFault {
+        no_memory()
+    }
+}
+
+/// Want of memory, which names no line.
+pub(crate) fn no_memory() -> CertFault
+    ensures { result ≡ no_memory }
+{
+    CertFault {
+        kind: CertKind::Memory,
+        line: 0,
     }
 }

@@ -1,37 +1,30 @@
-// The limits of the grammar.
+// The limits of the grammar, beside those of contests, trees and multipliers that other crates have.
+use ballot_form::Cand;
+use exact_num::WIDE;
 
-/// The most seats, all together or of one candidate.
-pub(crate) const MOST_SEATS: u64 = 500;
+/// The longest text of a certificate, in bytes.
+pub const LONGEST_TEXT: u64 = 1_073_741_824;
 
-/// The most candidates.
-pub(crate) const MOST_CANDIDATES: u64 = 12;
-
-/// The most ballots, and the greatest number of a ballot and of replacements.
-pub(crate) const MOST_BALLOTS: u64 = 1_000_000;
-
-/// The greatest number of a candidate.
-pub(crate) const MOST_CANDIDATE: u64 = 255;
+/// The greatest number of a candidate that a text may name.
+pub const GREATEST_CANDIDATE: Cand = 255;
 
 /// The greatest budget of nodes.
-pub(crate) const MOST_BUDGET: u64 = 40_000;
-
-/// The most kids of a split.
-pub(crate) const MOST_KIDS: u64 = 1_560;
+pub const MOST_BUDGET: u32 = 40_000;
 
 /// The most multipliers of a cut.
-pub(crate) const MOST_MULTIPLIERS: usize = 1_035;
+pub const MOST_MULTIPLIERS: usize = 1_035;
 
 /// The greatest multiplier, 2^63 - 1.
-pub(crate) const MOST_MULTIPLIER: u64 = 9_223_372_036_854_775_807;
+pub const GREATEST_MULTIPLIER: u64 = WIDE - 1;
 
-/// The greatest key, 2^40 - 1.
-pub(crate) const MOST_KEY: u64 = 1_099_511_627_775;
+/// The greatest key of a branch, 2^40 - 1.
+pub const GREATEST_KEY: u64 = 1_099_511_627_775;
 
 /// The last place that an arc leaves.
-pub(crate) const MOST_LEFT: u64 = 39;
+pub const LAST_LEFT: u8 = 39;
 
 /// The last place that an arc enters.
-pub(crate) const MOST_ENTERED: u64 = 40;
+pub const LAST_ENTERED: u8 = 40;
 
 /// The greatest value of a branch.
-pub(crate) const MOST_VALUE: u64 = 999_999;
+pub const GREATEST_VALUE: u32 = 999_999;

@@ -4,10 +4,10 @@ ghost use Rattle.ballot_form.specs.Rules.{IsRule};
 ghost use Rattle.cert_text.specs.CertText.{SizeFits, OutcomeFits, StopFits, ClaimFits, GoalFits, PutFits, TurnFits, BodyFits, IsPrintable, CertText};
 
 use crate::cert::{Cert, Claim, GoalText, Stop};
-use crate::limits::{MOST_BALLOTS, MOST_BUDGET, MOST_CANDIDATE, MOST_CANDIDATES, MOST_SEATS};
+use crate::limits::{GREATEST_CANDIDATE, MOST_BUDGET};
 use crate::tree_limits::bound_fits;
 use alteration_model::Put;
-use ballot_form::{Cand, Outcome, Rule};
+use ballot_form::{Cand, MOST_BALLOTS, MOST_CANDIDATES, MOST_SEATS, Outcome, Rule};
 
 /// Whether some text reads as this certificate. It takes no memory.
 pub fn is_printable(cert: &Cert) -> bool
@@ -28,7 +28,7 @@ fn rule_fits(rule: Rule) -> bool
     ensures { IsTrue result ↔ IsRule rule }
 {
     match rule {
-        Rule::Dhondt(seats) => 1 <= seats && u64::from(seats) <= MOST_SEATS,
+        Rule::Dhondt(seats) => 1 <= seats && seats <= MOST_SEATS,
         _ => true,
     }
 }
@@ -37,7 +37,7 @@ fn rule_fits(rule: Rule) -> bool
 fn size_fits(c: u8, ballots: u32) -> bool
     ensures { IsTrue result ↔ SizeFits (c, ballots) }
 {
-    1 <= c && u64::from(c) <= MOST_CANDIDATES && u64::from(ballots) <= MOST_BALLOTS
+    1 <= c && c <= MOST_CANDIDATES && ballots <= MOST_BALLOTS
 }
 
 /// Whether the outcome is one of the rule with `c` candidates.
@@ -57,23 +57,23 @@ fn outcome_fits(rule: Rule, c: u8, reported: &Outcome) -> bool
 
 /// Whether each number of seats is within its limits.
 fn seats_fit(seats: &[u16]) -> bool
-    ensures { IsTrue result ↔ All (λ s. s ≤ 500) seats.now }
+    ensures { IsTrue result ↔ All (λ s. s ≤ MOST_SEATS) seats.now }
 {
-    seats.iter().all(|s| u64::from(*s) <= MOST_SEATS)
+    seats.iter().all(|s| *s <= MOST_SEATS)
 }
 
 /// Whether a candidate's number is within its limits.
 fn candidate_fits(x: Cand) -> bool
-    ensures { IsTrue result ↔ (x ≤ 255) }
+    ensures { IsTrue result ↔ (x ≤ GREATEST_CANDIDATE) }
 {
-    u64::from(x) <= MOST_CANDIDATE
+    x <= GREATEST_CANDIDATE
 }
 
 /// Whether each candidate's number is.
 fn candidates_fit(row: &[Cand]) -> bool
-    ensures { IsTrue result ↔ All (λ x. x ≤ 255) row.now }
+    ensures { IsTrue result ↔ All (λ x. x ≤ GREATEST_CANDIDATE) row.now }
 {
-    row.iter().all(|x| u64::from(*x) <= MOST_CANDIDATE)
+    row.iter().all(|x| *x <= GREATEST_CANDIDATE)
 }
 
 /// Whether the numbers of a claim are within their limits.
@@ -81,11 +81,11 @@ fn claim_fits(claim: Claim) -> bool
     ensures { IsTrue result ↔ ClaimFits claim }
 {
     match claim {
-        Claim::Margin(k) => u64::from(k) <= MOST_BALLOTS,
+        Claim::Margin(k) => k <= MOST_BALLOTS,
         Claim::Fixed => true,
         Claim::Bounds { low, up, stop } => {
-            let low_fits = u64::from(low) <= MOST_BALLOTS;
-            low_fits && u64::from(up) <= MOST_BALLOTS && stop_fits(stop)
+            let low_fits = low <= MOST_BALLOTS;
+            low_fits && up <= MOST_BALLOTS && stop_fits(stop)
         },
     }
 }
@@ -95,7 +95,7 @@ fn stop_fits(stop: Stop) -> bool
     ensures { IsTrue result ↔ StopFits stop }
 {
     match stop {
-        Stop::Budget(nodes) => 1 <= nodes && u64::from(nodes) <= MOST_BUDGET,
+        Stop::Budget(nodes) => 1 <= nodes && nodes <= MOST_BUDGET,
         Stop::Depth => true,
     }
 }
@@ -145,5 +145,5 @@ fn puts_fit(puts: &[Put]) -> bool
 fn put_fits(put: &Put) -> bool
     ensures { IsTrue result ↔ PutFits put.now }
 {
-    u64::from(put.number) <= MOST_BALLOTS && candidates_fit(put.ballot.as_slice())
+    put.number <= MOST_BALLOTS && candidates_fit(put.ballot.as_slice())
 }

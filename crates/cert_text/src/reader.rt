@@ -1,10 +1,9 @@
 // Lines of a text, one after another.
 ghost use Rattle.std.specs.Prelude.{◌≡◌, ◌==◌, ◌<◌, ◌+◌, ◌^◌, length, OnOk};
 ghost use Rattle.std.specs.List.{position};
-ghost use Rattle.cert_text.specs.Reading.{Gives, line_at, at_line};
-ghost use Rattle.cert_text.specs.declared.fault.ReadError.TheVariants as errors;
+ghost use Rattle.cert_text.specs.Reading.{ReadsPart, line_at, at_line, text_left};
 
-use crate::fault::{CertFault, CertKind, ReadError};
+use crate::fault::{CertFault, CertKind, no_memory};
 use text_lines::LineFault;
 
 /// What is left of a text, and the number of its next line, from 1.
@@ -22,17 +21,17 @@ fn line_end(text: &[u8]) -> Option<usize>
 }
 
 /// A fault in a line.
-pub(crate) fn fault(kind: CertKind, line: u32) -> ReadError
-    ensures { result ≡ errors.Fault (record { kind = kind; line = line }) }
+pub(crate) fn fault(kind: CertKind, line: u32) -> CertFault
+    ensures { result ≡ record { kind = kind; line = line } }
 {
-    ReadError::Fault(CertFault { kind, line })
+    CertFault { kind, line }
 }
 
 impl<'a> Reader<'a> {
     /// The next line, which has to be ended.
-    pub fn line(&mut self) -> Result<&'a [u8], ReadError>
+    pub fn line(&mut self) -> Result<&'a [u8], CertFault>
         requires { self.old.number + 1 < 2 ^ 32 }
-        ensures line { Gives (λ l. (l.now, (self.new.number, self.new.rest.now))) result (line_at (self.old.number, self.old.rest.now)) }
+        ensures line { ReadsPart (λ l. (l.now, text_left self.new)) result (line_at (text_left self.old)) }
         ensures number { OnOk result (self.new.number ≡ self.old.number + 1) }
     {
         match line_end(self.rest) {
@@ -48,12 +47,13 @@ impl<'a> Reader<'a> {
 }
 
 /// A line's fault as a fault of the text.
-pub(crate) fn at_number<T: Drop>(number: u32, part: Result<T, LineFault>) -> Result<T, ReadError>
-    ensures { Gives (λ x. x) result (at_line number part) }
+pub(crate) fn at_number<T: Drop>(number: u32, part: Result<T, LineFault>) -> Result<T, CertFault>
+    ensures { result ≡ at_line number part }
 {
     match part {
         Ok(x) => Ok(x),
         Err(LineFault::BadLine) => Err(fault(CertKind::BadLine, number)),
         Err(LineFault::BadNumber) => Err(fault(CertKind::BadNumber, number)),
+        Err(LineFault::Memory) => Err(no_memory()),
     }
 }

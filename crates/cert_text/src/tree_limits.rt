@@ -5,14 +5,14 @@ ghost use Rattle.bound_tree.specs.Nodes.{size, height};
 ghost use Rattle.bound_tree.specs.Plain.{plain_of};
 ghost use Rattle.cert_text.specs.CertText.{LineFits};
 
-use crate::limits::{MOST_ENTERED, MOST_KEY, MOST_KIDS, MOST_LEFT, MOST_MULTIPLIERS, MOST_VALUE};
+use crate::limits::{GREATEST_KEY, GREATEST_VALUE, LAST_ENTERED, LAST_LEFT, MOST_MULTIPLIERS};
 use bound_tree::{BoundTree, MOST_DEPTH, MOST_NODES, Tree};
-use row_program::Feature;
+use row_program::{Feature, MOST_KIDS};
 
 /// Whether a tree is within its limits.
 #[tactic(auto, using(bound_tree::proofs::Laws::size_some))]
 pub(crate) fn bound_fits(tree: &BoundTree) -> bool
-    ensures { IsTrue result ↔ (All LineFits (lines_of tree.now) × (height tree.now ≤ 256) × (size tree.now ≤ 100000)) }
+    ensures { IsTrue result ↔ (All LineFits (lines_of tree.now) × (height tree.now ≤ MOST_DEPTH) × (size tree.now ≤ MOST_NODES)) }
 {
     let small = tree.depth() <= MOST_DEPTH && tree.nodes() <= MOST_NODES;
     small && tree_fits(tree.at(0))
@@ -25,7 +25,7 @@ fn tree_fits(tree: &Tree) -> bool
     ensures { IsTrue result ↔ All LineFits (lines_of (plain_of tree.now)) }
 {
     match tree {
-        Tree::Split(kids) => kids.len() as u64 <= MOST_KIDS && trees_fit(kids.as_slice()),
+        Tree::Split(kids) => kids.len() <= MOST_KIDS && trees_fit(kids.as_slice()),
         Tree::Branch(feature, value, low, high) => {
             branch_fits(*feature, *value) && halves_fit(low.get(), high.get())
         }
@@ -59,10 +59,10 @@ fn branch_fits(feature: Feature, value: u32) -> bool
     ensures { IsTrue result ↔ LineFits (BranchBy feature value) }
 {
     match feature {
-        Feature::From(key) => key <= MOST_KEY && u64::from(value) <= MOST_VALUE,
+        Feature::From(key) => key <= GREATEST_KEY && value <= GREATEST_VALUE,
         Feature::Arc(u, x) => {
-            let places = u64::from(u) <= MOST_LEFT && 1 <= x && u64::from(x) <= MOST_ENTERED;
-            places && u64::from(value) <= MOST_VALUE
+            let places = u <= LAST_LEFT && 1 <= x && x <= LAST_ENTERED;
+            places && value <= GREATEST_VALUE
         },
     }
 }

@@ -1,18 +1,19 @@
 // The lines of a tree.
-ghost use Rattle.std.specs.Prelude.{◌≡◌, IfOk};
+ghost use Rattle.std.specs.Prelude.{◌≡◌};
+ghost use Rattle.text_lines.specs.Faults.{UnlessMemory};
 ghost use Rattle.text_lines.specs.Words.{fields_of, ahead};
 ghost use Rattle.text_lines.specs.Forms.{made};
 ghost use Rattle.cert_text.specs.TreeLines.{seen, tree_line, split_line, cut_line, branch_line, from_line, arc_line};
 
 use crate::limits::{
-    MOST_ENTERED, MOST_KEY, MOST_KIDS, MOST_LEFT, MOST_MULTIPLIER, MOST_MULTIPLIERS, MOST_VALUE,
+    GREATEST_KEY, GREATEST_MULTIPLIER, GREATEST_VALUE, LAST_ENTERED, LAST_LEFT, MOST_MULTIPLIERS,
 };
 use bound_tree::Multipliers;
+use mov_base::List;
+use row_program::{Feature, MOST_KIDS};
+use std::alloc::Global;
 use text_lines::parts::Fields;
 use text_lines::{LineFault, any_numbers, both, fields, is_word, number, one_number, two_numbers};
-use mov_base::{List, Memory};
-use row_program::Feature;
-use std::alloc::Global;
 
 /// A line of a tree: a split into so many, a branch, or a cut.
 #[derive(Debug, Drop)]
@@ -23,24 +24,21 @@ pub(crate) enum TreeLine {
 }
 
 /// What a line of a tree says.
-pub(crate) fn read_tree_line(
-    alloc: Global,
-    line: &[u8],
-) -> Result<Result<TreeLine, LineFault>, Memory>
-    ensures { IfOk result (λ r. made seen r ≡ tree_line (fields_of line.now)) }
+pub(crate) fn read_tree_line(alloc: Global, line: &[u8]) -> Result<TreeLine, LineFault>
+    ensures { UnlessMemory result (made seen result ≡ tree_line (fields_of line.now)) }
 {
     let mut rest = fields(line);
     match rest.next() {
-        None => Ok(Err(LineFault::BadLine)),
+        None => Err(LineFault::BadLine),
         Some(word) => {
             if is_word(word.text, b"split") {
-                Ok(read_split(&mut rest))
+                read_split(&mut rest)
             } else if is_word(word.text, b"cut") {
                 read_cut(alloc, &mut rest)
             } else if is_word(word.text, b"branch") {
-                Ok(read_branch(&mut rest))
+                read_branch(&mut rest)
             } else {
-                Ok(Err(LineFault::BadLine))
+                Err(LineFault::BadLine)
             }
         }
     }
@@ -50,7 +48,7 @@ pub(crate) fn read_tree_line(
 fn read_split(rest: &mut Fields<'_>) -> Result<TreeLine, LineFault>
     ensures { made seen result ≡ split_line (ahead rest.old) }
 {
-    let kids = one_number(0, MOST_KIDS, rest)?;
+    let kids = one_number(0, MOST_KIDS as u64, rest)?;
     Ok(TreeLine::Split(kids as u32))
 }
 
@@ -76,7 +74,7 @@ fn read_branch(rest: &mut Fields<'_>) -> Result<TreeLine, LineFault>
 fn read_from(rest: &mut Fields<'_>) -> Result<TreeLine, LineFault>
     ensures { made seen result ≡ from_line (ahead rest.old) }
 {
-    let (key, value) = two_numbers(0, MOST_KEY, 0, MOST_VALUE, rest)?;
+    let (key, value) = two_numbers(0, GREATEST_KEY, 0, u64::from(GREATEST_VALUE), rest)?;
     Ok(TreeLine::Branch(Feature::From(key), value as u32))
 }
 
@@ -87,8 +85,9 @@ fn read_arc(rest: &mut Fields<'_>) -> Result<TreeLine, LineFault>
     match rest.next() {
         None => Err(LineFault::BadLine),
         Some(field) => {
-            let u = number(0, MOST_LEFT, field.text);
-            let (u, (x, value)) = both(u, two_numbers(1, MOST_ENTERED, 0, MOST_VALUE, rest))?;
+            let u = number(0, u64::from(LAST_LEFT), field.text);
+            let (last, most) = (u64::from(LAST_ENTERED), u64::from(GREATEST_VALUE));
+            let (u, (x, value)) = both(u, two_numbers(1, last, 0, most, rest))?;
             let arc = Feature::Arc(u as u8, x as u8);
             Ok(TreeLine::Branch(arc, value as u32))
         }
@@ -97,14 +96,12 @@ fn read_arc(rest: &mut Fields<'_>) -> Result<TreeLine, LineFault>
 
 /// A cut.
 #[tactic(auto, using(crate::proofs::Numbers::small_multipliers))]
-fn read_cut(alloc: Global, rest: &mut Fields<'_>) -> Result<Result<TreeLine, LineFault>, Memory>
-    ensures { IfOk result (λ r. made seen r ≡ cut_line (ahead rest.old)) }
+fn read_cut(alloc: Global, rest: &mut Fields<'_>) -> Result<TreeLine, LineFault>
+    ensures { UnlessMemory result (made seen result ≡ cut_line (ahead rest.old)) }
 {
     if rest.left() > MOST_MULTIPLIERS {
-        return Ok(Err(LineFault::BadLine));
+        return Err(LineFault::BadLine);
     }
-    match any_numbers(List::new(alloc), 0, MOST_MULTIPLIER, rest)? {
-        Ok(numbers) => Ok(Ok(TreeLine::Cut(Multipliers::from_vec(numbers.into_vec())))),
-        Err(fault) => Ok(Err(fault)),
-    }
+    let numbers = any_numbers(List::new(alloc), 0, GREATEST_MULTIPLIER, rest)?;
+    Ok(TreeLine::Cut(Multipliers::from_vec(numbers.into_vec())))
 }

@@ -1,11 +1,11 @@
 // Reading a tree.
 ghost use Rattle.std.specs.Prelude.{◌≡◌, ◌<◌, ◌≤◌, ◌+◌, ◌^◌, map, length, OnOk};
 ghost use Rattle.bound_tree.specs.Plain.{plain_of};
-ghost use Rattle.cert_text.specs.Reading.{Gives, Place, many_at};
+ghost use Rattle.cert_text.specs.Reading.{ReadsPart, many_at, text_left};
 ghost use Rattle.cert_text.specs.TreeLines.{seen};
 ghost use Rattle.cert_text.specs.TreeReading.{tree_line_at, grown_at, node_at};
 
-use crate::fault::{CertKind, ReadError};
+use crate::fault::{CertFault, CertKind};
 use crate::reader::{Reader, at_number, fault};
 use crate::tree_line::{TreeLine, read_tree_line};
 use bound_tree::{MOST_NODES, Tree};
@@ -14,19 +14,18 @@ use std::alloc::Global;
 
 /// A good line of a tree whose first line is `first`.
 #[tactic(auto, unfolding(crate::specs::TreeReading::tree_line_at))]
-fn next_tree_line(alloc: Global, first: u32, reader: &mut Reader<'_>) -> Result<TreeLine, ReadError>
+fn next_tree_line(alloc: Global, first: u32, reader: &mut Reader<'_>) -> Result<TreeLine, CertFault>
     requires first { first < 2 ^ 21 }
-    requires number { reader.old.number ≤ first + 100000 }
-    ensures line { Gives (λ x. (seen x, (reader.new.number, reader.new.rest.now))) result (tree_line_at first (reader.old.number, reader.old.rest.now)) }
-    ensures number { OnOk result (reader.new.number ≤ first + 100000) }
+    requires number { reader.old.number ≤ first + MOST_NODES }
+    ensures line { ReadsPart (λ x. (seen x, text_left reader.new)) result (tree_line_at first (text_left reader.old)) }
+    ensures number { OnOk result (reader.new.number ≤ first + MOST_NODES) }
 {
     let number = reader.number;
     if reader.rest.is_empty() {
         return Err(fault(CertKind::TreeEnds, number));
     }
     let text = reader.line()?;
-    let line = read_tree_line(alloc, text)?;
-    let line = at_number(number, line)?;
+    let line = at_number(number, read_tree_line(alloc, text))?;
     if number >= first + MOST_NODES {
         return Err(fault(CertKind::TooManyNodes, number));
     }
@@ -41,12 +40,12 @@ pub(crate) fn read_node(
     left: u32,
     first: u32,
     reader: &mut Reader<'_>,
-) -> Result<Tree, ReadError>
+) -> Result<Tree, CertFault>
     requires left { left < 2 ^ 16 }
     requires first { first < 2 ^ 21 }
-    requires number { reader.old.number ≤ first + 100000 }
-    ensures node { Gives (λ t. (plain_of t, (reader.new.number, reader.new.rest.now))) result (node_at left first (reader.old.number, reader.old.rest.now)) }
-    ensures number { OnOk result (reader.new.number ≤ first + 100000) }
+    requires number { reader.old.number ≤ first + MOST_NODES }
+    ensures node { ReadsPart (λ t. (plain_of t, text_left reader.new)) result (node_at left first (text_left reader.old)) }
+    ensures number { OnOk result (reader.new.number ≤ first + MOST_NODES) }
 {
     let number = reader.number;
     let line = next_tree_line(alloc, first, reader)?;
@@ -80,12 +79,12 @@ fn read_kids(
     first: u32,
     count: u32,
     reader: &mut Reader<'_>,
-) -> Result<List<Tree>, ReadError>
+) -> Result<List<Tree>, CertFault>
     requires left { left < 2 ^ 16 }
     requires first { first < 2 ^ 21 }
-    requires number { reader.old.number ≤ first + 100000 }
-    ensures nodes { Gives (λ kids. (map plain_of kids, (reader.new.number, reader.new.rest.now))) result (many_at (node_at left first) count (reader.old.number, reader.old.rest.now)) }
-    ensures number { OnOk result (reader.new.number ≤ first + 100000) }
+    requires number { reader.old.number ≤ first + MOST_NODES }
+    ensures nodes { ReadsPart (λ kids. (map plain_of kids, text_left reader.new)) result (many_at (node_at left first) count (text_left reader.old)) }
+    ensures number { OnOk result (reader.new.number ≤ first + MOST_NODES) }
 {
     let mut kids = List::new(alloc);
     for _ in 0..count {

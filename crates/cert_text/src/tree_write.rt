@@ -3,12 +3,13 @@ ghost use Rattle.std.specs.Prelude.{◌≡◌, ◌++◌, ◌∷◌, [], map, dec
 ghost use Rattle.std.specs.List.{flat_map};
 ghost use Rattle.bound_tree.specs.Lines.{BranchBy};
 ghost use Rattle.bound_tree.specs.Plain.{plain_of};
-ghost use Rattle.cert_text.specs.CertText.{line_text, tree_words, tree_text};
+ghost use Rattle.text_lines.specs.Words.{line_text};
+ghost use Rattle.cert_text.specs.CertText.{tree_words, tree_text};
 
-use crate::lines::{push_list, push_number, push_one, push_two};
 use bound_tree::Tree;
 use mov_base::Memory;
 use row_program::Feature;
+use text_lines::written::{push_list, push_number, push_one, push_two};
 
 /// Adds the lines of a tree.
 #[cycle(trees)]

@@ -1,15 +1,15 @@
 // Writing a certificate.
 ghost use Rattle.std.specs.Prelude.{◌≡◌, ◌++◌, ◌∷◌, [], map, decimal, OnOk, IfOk};
-ghost use Rattle.cert_text.specs.CertText.{line_text, put_words, goal_words, puts_text, cert_text, IsPrintable, CertText};
+ghost use Rattle.text_lines.specs.Words.{line_text};
+ghost use Rattle.cert_text.specs.CertText.{put_words, goal_words, puts_text, cert_text, IsPrintable, CertText};
 
 use crate::cert::{Cert, GoalText};
-use crate::lines::{
-    push_claim, push_list, push_number, push_numbers, push_one, push_reported, push_rule, push_two,
-};
 use crate::tree_write::push_tree;
+use crate::written::{push_claim, push_reported, push_rule};
 use alteration_model::Put;
 use mov_base::Memory;
 use std::alloc::Global;
+use text_lines::written::{push_list, push_number, push_numbers, push_one, push_two};
 
 /// The text of a certificate that is within the limits of the grammar.
 #[tactic(auto, using(bound_tree::proofs::Laws::size_some))]

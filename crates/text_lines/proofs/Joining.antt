@@ -8,7 +8,7 @@ use Rattle.std.proofs.lemmas.List.Splits.{slice_split-cons_no, slice_split-cons_
 use Rattle.std.proofs.lemmas.List.Quantifiers.{position-Some}
 use Rattle.std.proofs.lemmas.Fmt.{digits_decimal}
 use Rattle.text_lines.specs.Words.{fields_of, line_of}
-use Rattle.text_lines.specs.Forms.{is_digit}
+use Rattle.std.specs.Char.{is_ascii_digit}
 use Rattle.text_lines.proofs.Digits.{own}
 use Rattle.text_lines.proofs.Inverse.{and_parts}
 
@@ -70,13 +70,13 @@ line_end_is c text i e =
     let byte : get_or text i 0 ≡ c = eqb-true _ _ at.1 in
     sym (take-append-drop i text) ∙ ap (λ (t : List ℕ). take i text ++ t) (drop_more text i 0 at.0) ∙ ap (λ (b : ℕ). take i text ++ b ∷ drop (i + 1) text) byte
 
-other : (d c : ℕ) → c < 48 → is_digit d ≡ true → not (eqb d c) ≡ true
+other : (d c : ℕ) → c < 48 → is_ascii_digit d ≡ true → not (eqb d c) ≡ true
 other d c low h = grind arith
 
-digits_lack : (c : ℕ) (ds : List ℕ) → c < 48 → list_all is_digit ds ≡ true → lacks c ds ≡ true
+digits_lack : (c : ℕ) (ds : List ℕ) → c < 48 → list_all is_ascii_digit ds ≡ true → lacks c ds ≡ true
 digits_lack c [] low h = refl
 digits_lack c (d ∷ ds) low h =
-    let p = and_parts (is_digit d) (list_all is_digit ds) h in
+    let p = and_parts (is_ascii_digit d) (list_all is_ascii_digit ds) h in
     let one : not (eqb d c) ≡ true = other d c low p.0 in
     rw (one, digits_lack c ds low p.1) refl
 

@@ -1,35 +1,19 @@
 -- Forms of a line: what its fields give, or what is wrong with it first.
-use Rattle.std.specs.Prelude.{ℕ, ◌==◌, ◌||◌, ◌&&◌, not, nat_lt, nat_le, if◌then◌else◌, List, [], ◌∷◌, ◌++◌, Bool, false, length, slice_index, Result, Ok, Err}
-use Rattle.std.specs.List.{list_all}
+use Rattle.std.specs.Prelude.{ℕ, ◌==◌, ◌&&◌, not, nat_le, if◌then◌else◌, List, [], ◌∷◌, ◌++◌, Bool, false, length, Option, Some, None, Result, Ok, Err}
 use Rattle.std.specs.Str.{bytes_eq}
-use Rattle.std.specs.Str.Parse.{digits_value}
-use Rattle.text_lines.specs.declared.numbers.LineFault.{LineFault}
-use Rattle.text_lines.specs.declared.numbers.LineFault.TheVariants.{BadLine, BadNumber}
+use Rattle.text_lines.specs.declared.fault.LineFault.{LineFault}
+use Rattle.text_lines.specs.declared.fault.LineFault.TheVariants.{BadLine, BadNumber}
+use Rattle.text_lines.specs.Numbers.{are_digits, number_of}
+use Rattle.text_lines.specs.Faults.{both}
 
-abbrev pub is_digit : ℕ → Bool
-is_digit b = nat_le 48 b && nat_le b 57
+-- a number from low to high
+abbrev pub if_within : ℕ → ℕ → Option ℕ → Result ℕ LineFault
+if_within low high (Some n) = if nat_le low n && nat_le n high then Ok n else Err BadNumber
+if_within low high None = Err BadNumber
 
--- what stands where a number is wanted is one or more digits
-abbrev pub is_number : List ℕ → Bool
-is_number field = nat_lt 0 (length field) && list_all is_digit field
-
-abbrev pub has_leading_zero : List ℕ → Bool
-has_leading_zero field = nat_lt 1 (length field) && (slice_index field 0 == 48)
-
--- the number that a field is, from low to high
-abbrev pub number_of : ℕ → ℕ → List ℕ → Result ℕ LineFault
-number_of low high field =
-    if not (is_number field) then Err BadLine
-    else if has_leading_zero field || nat_lt (digits_value 10 field) low || nat_lt high (digits_value 10 field) then Err BadNumber
-    else Ok (digits_value 10 field)
-
--- two parts of a line: a bad line before a bad number
-abbrev pub both : {A B : Type 0} → Result A LineFault → Result B LineFault → Result (A × B) LineFault
-both (Ok x) (Ok y) = Ok (x, y)
-both (Ok x) (Err e) = Err e
-both (Err e) (Ok y) = Err e
-both (Err BadLine) (Err f) = Err BadLine
-both (Err BadNumber) (Err f) = Err f
+-- the number from low to high that a field is
+abbrev pub number_within : ℕ → ℕ → List ℕ → Result ℕ LineFault
+number_within low high field = if are_digits field then if_within low high (number_of field) else Err BadLine
 
 -- a value made from what was read
 abbrev pub made : {A B : Type 0} → (A → B) → Result A LineFault → Result B LineFault
@@ -51,17 +35,17 @@ behind [] = []
 behind (field ∷ fields) = fields
 
 -- what stands behind a word
-abbrev pub after : {A : Type 0} → List ℕ → (List (List ℕ) → Result A LineFault) → List (List ℕ) → Result A LineFault
-after word form fields = if begins word fields then form (behind fields) else Err BadLine
+abbrev pub behind_word : {A : Type 0} → List ℕ → (List (List ℕ) → Result A LineFault) → List (List ℕ) → Result A LineFault
+behind_word word form fields = if begins word fields then form (behind fields) else Err BadLine
 
--- one number, or two, and then no field
+-- one number, or two each within its limits, and then no field
 abbrev pub one_of : ℕ → ℕ → List (List ℕ) → Result ℕ LineFault
 one_of low high [] = Err BadLine
-one_of low high (field ∷ fields) = alone (number_of low high field) fields
+one_of low high (field ∷ fields) = alone (number_within low high field) fields
 
-abbrev pub two_of : ℕ → ℕ → ℕ → ℕ → List (List ℕ) → Result (ℕ × ℕ) LineFault
-two_of low high low' high' [] = Err BadLine
-two_of low high low' high' (field ∷ fields) = both (number_of low high field) (one_of low' high' fields)
+abbrev pub two_of : ℕ × ℕ → ℕ × ℕ → List (List ℕ) → Result (ℕ × ℕ) LineFault
+two_of limits limits' [] = Err BadLine
+two_of limits limits' (field ∷ fields) = both (number_within limits.0 limits.1 field) (one_of limits'.0 limits'.1 fields)
 
 -- any count of numbers
 abbrev pub joined : Result (List ℕ) LineFault → Result (List ℕ) LineFault → Result (List ℕ) LineFault
@@ -72,7 +56,7 @@ single number = made (λ n. n ∷ []) number
 
 abbrev pub numbers_of : ℕ → ℕ → List (List ℕ) → Result (List ℕ) LineFault
 numbers_of low high [] = Ok []
-numbers_of low high (field ∷ fields) = joined (single (number_of low high field)) (numbers_of low high fields)
+numbers_of low high (field ∷ fields) = joined (single (number_within low high field)) (numbers_of low high fields)
 
 -- exactly so many numbers
 abbrev pub count_of : ℕ → ℕ → ℕ → List (List ℕ) → Result (List ℕ) LineFault

@@ -8,16 +8,19 @@
 ghost use Rattle.std.specs.Prelude.{◌≡◌};
 ghost use Rattle.text_lines.specs.Words.{fields_of, ahead, line_of};
 
+mod fault;
 mod line_numbers;
 mod lists;
 mod numbers;
 pub mod parts;
+pub mod written;
 
+pub use fault::{LineFault, both};
 pub use line_numbers::{
-    any_numbers, is_word, next_is, nothing_more, one_number, so_many_numbers, two_numbers,
+    any_numbers, is_word, next_is, nothing_more, number, one_number, so_many_numbers, two_numbers,
 };
 pub use lists::NumberList;
-pub use numbers::{LineFault, both, number};
+pub use numbers::{Numeral, read_numeral};
 use parts::Fields;
 
 /// The fields of a line: what stands between single spaces. A line without a space, also an empty one, is one field. It takes
@@ -30,6 +33,3 @@ pub fn fields<'a>(line: &'a [u8]) -> Fields<'a>
 {
     Fields::of_line(line)
 }
-
-#[cfg(test)]
-mod tests;

@@ -1,13 +1,26 @@
 // What is left of a line, read as numbers.
-ghost use Rattle.std.specs.Prelude.{◌≡◌, ◌<◌, ◌≤◌, ◌^◌, [], drop, length, IfOk, OnOk};
+ghost use Rattle.std.specs.Prelude.{◌≡◌, ◌≤◌, [], drop, length, IfOk, OnOk};
 ghost use Rattle.std.specs.Str.{bytes_eq};
 ghost use Rattle.text_lines.specs.Words.{ahead};
-ghost use Rattle.text_lines.specs.Forms.{begins, behind, alone, made, one_of, two_of, numbers_of, count_of, joined, single};
+ghost use Rattle.text_lines.specs.Faults.{UnlessMemory};
+ghost use Rattle.text_lines.specs.Forms.{begins, behind, alone, made, one_of, two_of, numbers_of, count_of, joined, single, number_within};
 
+use crate::fault::{LineFault, both};
 use crate::lists::NumberList;
-use crate::numbers::{LineFault, both, number};
+use crate::numbers::{Numeral, read_numeral};
 use crate::parts::Fields;
-use mov_base::Memory;
+
+/// The number that a field is, from `low` to `high`.
+pub fn number(low: u64, high: u64, field: &[u8]) -> Result<u64, LineFault>
+    ensures is { result ≡ number_within low high field.now }
+    ensures within { IfOk result (λ n. (low ≤ n) × (n ≤ high)) }
+{
+    match read_numeral(high, field) {
+        Numeral::NotDigits => Err(LineFault::BadLine),
+        Numeral::Number(n) if low <= n => Ok(n),
+        _ => Err(LineFault::BadNumber),
+    }
+}
 
 /// The part, where no field is left. Where one is, it is passed over.
 pub fn nothing_more<T: Drop>(
@@ -26,7 +39,6 @@ pub fn nothing_more<T: Drop>(
 
 /// The one number that is left, from `low` to `high`. It passes over two fields at most.
 pub fn one_number(low: u64, high: u64, fields: &mut Fields<'_>) -> Result<u64, LineFault>
-    requires { high < 2 ^ 63 }
     ensures is { result ≡ one_of low high (ahead fields.old) }
     ensures within { IfOk result (λ n. (low ≤ n) × (n ≤ high)) }
     ensures rest { ahead fields.new ≡ drop 2 (ahead fields.old) }
@@ -46,9 +58,7 @@ pub fn two_numbers(
     high2: u64,
     fields: &mut Fields<'_>,
 ) -> Result<(u64, u64), LineFault>
-    requires first { high < 2 ^ 63 }
-    requires second { high2 < 2 ^ 63 }
-    ensures is { result ≡ two_of low high low2 high2 (ahead fields.old) }
+    ensures is { result ≡ two_of (low, high) (low2, high2) (ahead fields.old) }
     ensures within { IfOk result (λ x. (low ≤ x.0) × (x.0 ≤ high) × (low2 ≤ x.1) × (x.1 ≤ high2)) }
     ensures rest { ahead fields.new ≡ drop 3 (ahead fields.old) }
     ensures line { fields.new.line ≡ fields.old.line }
@@ -62,21 +72,17 @@ pub fn two_numbers(
     }
 }
 
-/// One number more.
+/// One number more, or the graver fault.
 fn with_number<N: NumberList>(
     found: Result<N, LineFault>,
     next: Result<u64, LineFault>,
-) -> Result<Result<N, LineFault>, Memory>
+) -> Result<N, LineFault>
     requires kept { IfOk next (λ n. n ≤ N.most) }
-    ensures { IfOk result (λ r. made N.numbers r ≡ joined (made N.numbers found) (single next)) }
+    ensures { UnlessMemory result (made N.numbers result ≡ joined (made N.numbers found) (single next)) }
 {
-    match both(found, next) {
-        Err(e) => Ok(Err(e)),
-        Ok((mut numbers, n)) => {
-            numbers.keep(n)?;
-            Ok(Ok(numbers))
-        }
-    }
+    let (mut numbers, n) = both(found, next)?;
+    numbers.keep(n)?;
+    Ok(numbers)
 }
 
 /// The numbers that are left, from `low` to `high`, in the list `empty`.
@@ -85,19 +91,18 @@ pub fn any_numbers<N: NumberList>(
     low: u64,
     high: u64,
     fields: &mut Fields<'_>,
-) -> Result<Result<N, LineFault>, Memory>
-    requires limit { high < 2 ^ 63 }
+) -> Result<N, LineFault>
     requires kept { high ≤ N.most }
     requires empty { N.numbers empty ≡ [] }
-    ensures is { IfOk result (λ r. made N.numbers r ≡ numbers_of low high (ahead fields.old)) }
-    ensures rest { OnOk result (ahead fields.new ≡ []) }
+    ensures is { UnlessMemory result (made N.numbers result ≡ numbers_of low high (ahead fields.old)) }
+    ensures rest { ahead fields.new ≡ [] }
     ensures line { fields.new.line ≡ fields.old.line }
 {
     let mut found = Ok(empty);
     while let Some(field) = fields.next() {
-        found = with_number(found, number(low, high, field.text))?;
+        found = with_number(found, number(low, high, field.text));
     }
-    Ok(found)
+    found
 }
 
 /// The numbers that are left, exactly so many and each from `low` to `high`, in the list `empty`. Where so many fields aren't left,
@@ -108,17 +113,16 @@ pub fn so_many_numbers<N: NumberList>(
     low: u64,
     high: u64,
     fields: &mut Fields<'_>,
-) -> Result<Result<N, LineFault>, Memory>
-    requires limit { high < 2 ^ 63 }
+) -> Result<N, LineFault>
     requires kept { high ≤ N.most }
     requires empty { N.numbers empty ≡ [] }
-    ensures is { IfOk result (λ r. made N.numbers r ≡ count_of count low high (ahead fields.old)) }
-    ensures rest { length (ahead fields.old) ≡ count → OnOk result (ahead fields.new ≡ []) }
+    ensures is { UnlessMemory result (made N.numbers result ≡ count_of count low high (ahead fields.old)) }
+    ensures rest { length (ahead fields.old) ≡ count → ahead fields.new ≡ [] }
     ensures unread { (length (ahead fields.old) ≡ count → ⊥) → fields.new ≡ fields.old }
     ensures line { fields.new.line ≡ fields.old.line }
 {
     if fields.left() != count {
-        return Ok(Err(LineFault::BadLine));
+        return Err(LineFault::BadLine);
     }
     any_numbers(empty, low, high, fields)
 }

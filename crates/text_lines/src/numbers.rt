@@ -1,79 +1,79 @@
-// A number, and what is wrong with a line first.
-ghost use Rattle.std.specs.Prelude.{◌≡◌, ◌<◌, ◌≤◌, ◌^◌, ◌&&◌, nat_lt, nat_le, length, MatchOption, IfOk, Ok, Err, true};
+// Decimal numbers.
+ghost use Rattle.std.specs.Prelude.{◌≡◌, ◌≤◌, ◌<◌, ◌+◌, ◌*◌, MatchOption, true};
 ghost use Rattle.std.specs.List.{list_all};
+ghost use Rattle.std.specs.Char.{is_ascii_digit};
 ghost use Rattle.std.specs.Str.Parse.{digits_value};
-ghost use Rattle.text_lines.specs.Forms.{number_of, both, is_digit, is_number, has_leading_zero};
+ghost use Rattle.text_lines.specs.Numbers.{IsUpTo, numeral_of};
+ghost use Rattle.text_lines.specs.Numbers as spec;
 
-/// What is wrong with a line.
+/// What a text is, read as a decimal number.
 #[derive(Clone, Copy, Debug, PartialEq, Eq)]
-pub enum LineFault {
-    /// Its words or the number of its fields differ, or a field where a number stands has no digit or another byte.
-    BadLine,
-    /// A number has a leading zero or is outside its limits.
-    BadNumber,
+pub enum Numeral {
+    /// It is empty, or has a byte that isn't a digit.
+    NotDigits,
+    /// It is more than one digit, and the first is 0.
+    LeadingZero,
+    /// It writes a number above the limit.
+    Above,
+    /// It writes this number.
+    Number(u64),
+}
+
+/// The number that a text writes, where it is at most `high`. The text may have any number of digits.
+pub fn read_numeral(high: u64, text: &[u8]) -> Numeral
+    ensures is { result ≡ numeral_of high text.now }
+    ensures within { IsUpTo high result }
+{
+    if !are_digits(text) {
+        return Numeral::NotDigits;
+    }
+    if has_leading_zero(text) {
+        return Numeral::LeadingZero;
+    }
+    match value_up_to(high, text) {
+        Some(n) => Numeral::Number(n),
+        None => Numeral::Above,
+    }
+}
+
+/// Whether the text is one or more digits.
+fn are_digits(text: &[u8]) -> bool
+    ensures { result ≡ spec.are_digits text.now }
+{
+    !text.is_empty() && all_digits(text)
 }
 
 /// Whether each byte is a digit.
-fn all_digits(field: &[u8]) -> bool
-    ensures { result ≡ list_all is_digit field.now }
+fn all_digits(text: &[u8]) -> bool
+    ensures { result ≡ list_all is_ascii_digit text.now }
 {
-    field.iter().all(|b| b'0' <= *b && *b <= b'9')
+    text.iter().all(|byte| byte.is_ascii_digit())
 }
 
-/// Whether the field is one or more digits.
-fn has_digits_alone(field: &[u8]) -> bool
-    ensures { result ≡ is_number field.now }
+/// Whether a text of more than one byte begins with `0`.
+fn has_leading_zero(text: &[u8]) -> bool
+    ensures { result ≡ spec.has_leading_zero text.now }
 {
-    !field.is_empty() && all_digits(field)
+    text.len() > 1 && text[0] == b'0'
 }
 
 /// The number of these digits, where it is at most `high`. It doesn't overflow, however many digits there are.
-#[tactic(auto, using(crate::proofs::Digits::digit_here, crate::proofs::Digits::value_more, crate::proofs::Digits::value_above))]
-fn value_up_to(high: u64, field: &[u8]) -> Option<u64>
-    requires limit { high < 2 ^ 63 }
-    requires digits { list_all is_digit field.now ≡ true }
-    ensures { MatchOption result (high < digits_value 10 field.now) (λ n. (n ≡ digits_value 10 field.now) × (n ≤ high)) }
+#[tactic(auto, using(crate::proofs::Digits::digit_here, crate::proofs::Digits::value_more))]
+fn value_up_to(high: u64, digits: &[u8]) -> Option<u64>
+    requires { list_all is_ascii_digit digits.now ≡ true }
+    ensures { MatchOption result (high < digits_value 10 digits.now) (λ n. (n ≡ digits_value 10 digits.now) × (n ≤ high)) }
 {
     let mut n = 0u64;
-    for b in field {
-        if n > high / 10 {
-            return None;
-        }
-        n = n * 10 + u64::from(*b - b'0');
+    for byte in digits {
+        n = with_digit(high, n, *byte - b'0')?;
     }
-    if n > high { None } else { Some(n) }
+    Some(n)
 }
 
-/// The number that a field is, from `low` to `high`.
-pub fn number(low: u64, high: u64, field: &[u8]) -> Result<u64, LineFault>
-    requires { high < 2 ^ 63 }
-    ensures is { result ≡ number_of low high field.now }
-    ensures within { IfOk result (λ n. (low ≤ n) × (n ≤ high)) }
+/// The number with a digit more, where it is at most `high`.
+fn with_digit(high: u64, n: u64, digit: u8) -> Option<u64>
+    ensures { MatchOption result (high < n * 10 + digit) (λ m. (m ≡ n * 10 + digit) × (m ≤ high)) }
 {
-    if !has_digits_alone(field) {
-        return Err(LineFault::BadLine);
-    }
-    if field.len() > 1 && field[0] == b'0' {
-        return Err(LineFault::BadNumber);
-    }
-    match value_up_to(high, field) {
-        Some(n) if low <= n => Ok(n),
-        _ => Err(LineFault::BadNumber),
-    }
-}
-
-/// Two parts of a line. A bad line goes before a bad number.
-pub fn both<A: Drop, B: Drop>(
-    first: Result<A, LineFault>,
-    second: Result<B, LineFault>,
-) -> Result<(A, B), LineFault>
-    ensures { result ≡ both first second }
-{
-    match (first, second) {
-        (Ok(x), Ok(y)) => Ok((x, y)),
-        (Ok(_), Err(e)) => Err(e),
-        (Err(e), Ok(_)) => Err(e),
-        (Err(LineFault::BadLine), Err(_)) => Err(LineFault::BadLine),
-        (Err(LineFault::BadNumber), Err(e)) => Err(e),
-    }
+    let more = n.checked_mul(10)?.checked_add(u64::from(digit))?;
+    if more > high { None } else { Some(more) }
 }

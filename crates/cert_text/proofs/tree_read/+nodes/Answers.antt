@@ -6,6 +6,7 @@ use Rattle.cert_text.specs.TreeReading.{node_at}
 use Rattle.cert_text.specs.Reading.{many_at}
 use Rattle.cert_text.proofs.Growing.{goes_on, ends, is_done}
 use Rattle.cert_text.proofs.tree_read.+nodes.Goals as goal
+use Rattle.bound_tree.specs.declared.bound.TheConstants.{MOST_NODES}
 
 pub read_kids-returns-in_err-kid-clause-nodes : goal.read_kids-returns-in_err-kid-clause-nodes
 read_kids-returns-in_err-kid-clause-nodes t c =
@@ -16,7 +17,7 @@ read_kids-returns-in_err-kid-clause-nodes t c =
 pub read_kids-loop-preserved : goal.read_kids-loop-preserved
 read_kids-loop-preserved t c =
     let e : map plain_of c.push.new.self ≡ map plain_of c.loop.kids ++ plain_of c.in_ok-kid.kid ∷ [] = ap (map plain_of) c.in_ok-push.ensures.ok ∙ map-append plain_of c.loop.kids (c.in_ok-kid.kid ∷ []) in
-    let below : c.read_node.new.reader.number ≤ c.args.first + 100000 = c.in_ok-kid.ensures.number in
+    let below : c.read_node.new.reader.number ≤ c.args.first + MOST_NODES = c.in_ok-kid.ensures.number in
     record {
       read = rw e (goes_on (node_at c.args.left c.args.first) (map plain_of c.loop.kids) c.args.count c.loop.counter (c.loop.reader.number, c.loop.reader.rest.now) (plain_of c.in_ok-kid.kid) (c.read_node.new.reader.number, c.read_node.new.reader.rest.now)
           (many_at (node_at c.args.left c.args.first) c.args.count (c.args.reader.now.number, c.args.reader.now.rest.now)) c.loop-test.true c.in_ok-kid.ensures.node c.loop.invariant.read);

@@ -1,6 +1,6 @@
 use Rattle.std.proofs.Common.{◌∷◌, sym}
-use Rattle.cert_text.proofs.Pieces.{on_err, item_cut}
-use Rattle.cert_text.proofs.lines.push_numbers.Goals as goal
+use Rattle.text_lines.proofs.Pieces.{on_err, item_cut}
+use Rattle.text_lines.proofs.written.push_numbers.Goals as goal
 
 pub returns-in_err-push_number-clause-part : goal.returns-in_err-push_number-clause-part
 returns-in_err-push_number-clause-part g c =

@@ -6,7 +6,7 @@ use Rattle.std.proofs.lemmas.Grind.{flat_map-append}
 use Rattle.std.proofs.lemmas.List.{take-append-drop, take-append-le, drop_more}
 use Rattle.std.proofs.lemmas.List.Concat.{flat_map-cons}
 use Rattle.std.proofs.Math.Seq.{take-append-add}
-use Rattle.cert_text.specs.Pieces.{AddedFirst}
+use Rattle.text_lines.specs.Written.{AddedFirst}
 
 -- nothing was added
 pub none_added : (old new text : List ℕ) → new ≡ old → AddedFirst old new text

@@ -1,6 +1,6 @@
 use Rattle.std.proofs.Common.{[], ◌∷◌}
-use Rattle.cert_text.proofs.Pieces.{on_err, none_added, first_added}
-use Rattle.cert_text.proofs.lines.push_number.Goals as goal
+use Rattle.text_lines.proofs.Pieces.{on_err, none_added, first_added}
+use Rattle.text_lines.proofs.written.push_number.Goals as goal
 
 pub returns-in_err-push-clause-part : goal.returns-in_err-push-clause-part
 returns-in_err-push-clause-part g c = on_err _ (none_added _ _ (32 ∷ g.I.Integer.text c.args.number) c.in_err-push.ensures.items)

@@ -1,9 +1,9 @@
 use Rattle.std.proofs.Common.{List, ℕ, ◌∷◌, sym, subst}
 use Rattle.std.specs.Prelude.{codes, decimal}
-use Rattle.cert_text.specs.Pieces.{AddedFirst}
-use Rattle.cert_text.proofs.Pieces.{on_err, none_added, first_cut, second_cut}
+use Rattle.text_lines.specs.Written.{AddedFirst}
+use Rattle.text_lines.proofs.Pieces.{on_err, none_added, first_cut, second_cut}
 use Rattle.cert_text.proofs.Writing.{bounds_text, stop_rest}
-use Rattle.cert_text.proofs.lines.push_bounds.Goals as goal
+use Rattle.cert_text.proofs.written.push_bounds.Goals as goal
 
 pub returns-in_err-push_number-clause-part : goal.returns-in_err-push_number-clause-part
 returns-in_err-push_number-clause-part c =

@@ -1,10 +1,10 @@
 use Rattle.std.proofs.Common.{[], ◌∷◌, List, ℕ, map, sym, subst}
 use Rattle.std.specs.List.{flat_map}
-use Rattle.cert_text.specs.CertText.{line_text}
-use Rattle.cert_text.specs.Pieces.{AddedFirst}
-use Rattle.cert_text.proofs.Pieces.{on_err, none_added, first_cut, second_cut, first_added, both_added}
-use Rattle.cert_text.proofs.Writing.{list_done, list_text}
-use Rattle.cert_text.proofs.lines.push_list.Goals as goal
+use Rattle.text_lines.specs.Words.{line_text}
+use Rattle.text_lines.specs.Written.{AddedFirst}
+use Rattle.text_lines.proofs.Pieces.{on_err, none_added, first_cut, second_cut, first_added, both_added}
+use Rattle.text_lines.proofs.Writing.{list_done, list_text}
+use Rattle.text_lines.proofs.written.push_list.Goals as goal
 
 pub returns-clause-line : goal.returns-clause-line
 returns-clause-line g c = list_done g.I.Integer.text c.args.out.now.items c.args.word.now c.extend_from_slice.new.self.items c.push_numbers.new.out.items c.push.new.self.items c.args.numbers.now c.in_ok-extend_from_slice.ensures.items c.in_ok-push_numbers.ensures.numbers c.in_ok-push.ensures.items

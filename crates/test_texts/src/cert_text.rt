@@ -1,5 +1,5 @@
 // Certificates of worked contests, read and printed again, and texts with each fault.
-use super::*;
+use cert_text::{Claim, GoalText, is_printable, print_cert, read_cert};
 use std::alloc::Global;
 use std::process::Abort;
 use std::test::Fail;
@@ -33,7 +33,7 @@ fn expect<R: Abort>(
 }
 
 #[test]
-fn certificates_are_read_and_printed_again(rt: HostRuntime) -> Result<(), Fail> {
+fn certificates_are_read_and_printed_again_within_limits(rt: HostRuntime) -> Result<(), Fail> {
     let table: [&[u8]; 14] = [
         b"movcert 1\nrule plurality\nsize 2 7\nreported 0\nmargin 2\ngoal pair 1 0\nput 1 1\nput 2 1\nsplit 1\ncut 1\n",
         b"movcert 1\nrule plurality\nsize 2 6\nreported 0\nmargin 0\ngoal pair 1 0\ncut\n",
@@ -54,6 +54,17 @@ fn certificates_are_read_and_printed_again(rt: HostRuntime) -> Result<(), Fail> 
         let again = printed(rt.alloc(), text)?;
         assert_eq!(rt; again.as_slice(), text);
     }
+    let mut cert = read_cert(
+        rt.alloc(),
+        b"movcert 1\nrule irv\nsize 1 7\nreported 0\nfixed\nsplit 0\n",
+    )?;
+    assert!(rt; is_printable(&cert));
+    cert.claim = Claim::Margin(0);
+    assert!(rt; !is_printable(&cert));
+    cert.goal = Some(GoalText::Cover(0));
+    assert!(rt; is_printable(&cert));
+    cert.ballots = 1_000_001;
+    assert!(rt; !is_printable(&cert));
     Ok(())
 }
 
@@ -151,21 +162,5 @@ fn a_tree_has_limits(rt: HostRuntime) -> Result<(), Fail> {
     )?;
     let again = printed(alloc, largest.as_slice())?;
     assert_eq!(rt; again.as_slice(), largest.as_slice());
-    Ok(())
-}
-
-#[test]
-fn limits_are_judged(rt: HostRuntime) -> Result<(), Fail> {
-    let mut cert = read_cert(
-        rt.alloc(),
-        b"movcert 1\nrule irv\nsize 1 7\nreported 0\nfixed\nsplit 0\n",
-    )?;
-    assert!(rt; is_printable(&cert));
-    cert.claim = Claim::Margin(0);
-    assert!(rt; !is_printable(&cert));
-    cert.goal = Some(GoalText::Cover(0));
-    assert!(rt; is_printable(&cert));
-    cert.ballots = 1_000_001;
-    assert!(rt; !is_printable(&cert));
     Ok(())
 }
