@@ -1,6 +1,7 @@
 -- Nodes of a tree of the program: their shape, and the visits below them.
 use Rattle.std.proofs.Common.{ℕ, zero, suc, List, [], ◌∷◌, ◌++◌, Some, None, All, Bool, true, false, IsTrue, ◌≡◌, ◌<◌, ◌≤◌, ◌+◌, ◌∙◌, ◌↔◌, length, map, take, drop, get_or, length-append, refl, ap, sym, subst, inr, arith}
-use Rattle.std.specs.Prelude.{Contains, IfOk, Result, Ok, Err, option_map, sum_by}
+use Rattle.std.specs.Prelude.{◌==◌, Contains, IfOk, Result, Ok, Err, option_map, sum_by}
+use Rattle.std.proofs.lemmas.Bool.{false≢true}
 use Rattle.std.proofs.lemmas.List.{drop_all, drop_more}
 use Rattle.std.proofs.lemmas.List.Elements.{All-append, All-contains_itself, All-cons, All-head, All-nil, All-tail}
 use Rattle.std.proofs.lemmas.Option.{slice_get_read}
@@ -34,6 +35,10 @@ pub kids_counted : (kids : List Tree) → kid_count (kids_of (map plain_of kids)
 kids_counted [] = refl
 kids_counted (kid ∷ kids) = ap suc (kids_counted kids)
 
+pub none_long : {X : Type 0} (xs : List X) → (length xs == 0) ≡ true → xs ≡ []
+none_long [] is = refl
+none_long (x ∷ xs) is = absurd (false≢true is)
+
 pub no_feature : (e : Election) (goal : Goal) (feature : Feature) → IsFeatureOf e goal feature → ⊥
 no_feature e Root feature h = h
 no_feature e (Pair g l) feature h = h
@@ -43,6 +48,12 @@ pub shaped_Split : (e : Election) (node : Node) (tree : Tree) (kids : List Tree)
 shaped_Split e node tree kids is =
     let same : plain_of tree ≡ Split (kids_of (map plain_of kids)) = ap plain_of is ∙ plain_Split kids in
     rw same (rw kids_counted (λ h. h, λ h. h))
+
+pub split_counted : (e : Election) (node : Node) (tree : Tree) (kids : List Tree) (count : ℕ) (b : Bool) → tree ≡ program.Split kids → node.limits ≡ [] → count ≡ length kids
+    → (IsTrue b ↔ (option_map length (cover_of e node.goal) ≡ Some count)) → IsTrue b ↔ IsShaped e node (plain_of tree)
+split_counted e node tree kids count b is free many test =
+    let s = shaped_Split e node tree kids is in
+    (λ h. s.1 (free, test.0 h ∙ ap Some many), λ h. test.1 ((s.0 h).1 ∙ ap Some (sym many)))
 
 pub shaped_Cut : (e : Election) (node : Node) (tree : Tree) (multipliers : List ℕ) → tree ≡ program.Cut multipliers
     → IsShaped e node (plain_of tree) ↔ (length multipliers ≡ number_count e node)

@@ -56,30 +56,6 @@ room_for race start room is values enough = by start.goal (ap length values.clas
         let k : length race.kinds ≡ length (classes_of bytes_eq race.roll.now.ballots) = ap length is.kinds in
         omega (arith, many, f, k, enough)
 
--- the numbers of a cut are multipliers
-pub are_multipliers : (e : Election) (start : Ground) (limits : List Limit) (given ls : List ℕ) → IsGroundOf e start → given ≡ ls
-    → length ls ≡ number_count e (node_of start limits) → All (λ l. l < WIDE) ls → AreMultipliers start limits given
-are_multipliers e start limits given ls values lent many small =
-    let n : length start.sums ≡ length (rows_of e start.goal) = ap length values.sums ∙ length-map (rows_of e start.goal) (λ weight. sum_z weight e.poll.ballots) in
-    record { one_each = omega (arith, ap length lent, many, n); small = subst (λ xs. All (λ l. l < WIDE) xs) (sym lent) small }
-
--- limits of a goal are limits of it in any election
-pub limits_anywhere : (e other : Election) (node : Node) → AreLimits e node → AreLimits other node
-limits_anywhere e other node are = record { few = are.few; small = are.small; features = λ k d lt. by node.goal (are.features k d lt) }
-  where
-    by : (goal : Goal) {feature : Feature} → IsFeatureOf e goal feature → IsFeatureOf other goal feature
-    by Root h = h
-    by (Pair g l) h = h
-
--- beyond one more than there are ballots the test is the one there
-pub cut_within : (e : Election) (node : Node) (given ls : List ℕ) (t within ballots : ℕ) (b : Bool) → given ≡ ls → ballots ≡ length e.poll.ballots
-    → within ≡ min t (ballots + 1) → (IsTrue b ↔ Cuts e node given within) → IsTrue b ↔ Cuts e node ls t
-cut_within e node given ls t within ballots b lent many is test =
-    let n : min within (length e.poll.ballots + 1) ≡ min t (length e.poll.ballots + 1) = omega (arith, many, is) in
-    let f : Cuts e node given within ≡ Cuts e node ls t =
-    ap (λ k. CutsKept e.poll (weighed_of e node given) k) n ∙ ap (λ xs. Cuts e node xs t) lent in
-    subst (λ (X : Type 0). IsTrue b ↔ X) f test
-
 -- ---- what is asked of a node
 
 pub passes_Cut : (e : Election) (node : Node) (tree : Tree) (multipliers : List ℕ) (t : ℕ) (b : Bool) → tree ≡ program.Cut multipliers

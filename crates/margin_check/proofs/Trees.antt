@@ -1,5 +1,5 @@
 -- Shape and cuts of all nodes are what a tree proves, and what is proved is so.
-use Rattle.std.proofs.Common.{ℕ, zero, suc, List, [], ◌∷◌, ◌++◌, Option, Some, None, All, ◌≡◌, ◌<◌, ◌↔◌, length, refl, ap, sym, subst, arith}
+use Rattle.std.proofs.Common.{ℕ, zero, suc, List, [], ◌∷◌, ◌++◌, Option, Some, None, All, ◌≡◌, ◌<◌, ◌∙◌, ◌↔◌, length, refl, ap, sym, subst, arith}
 use Rattle.std.specs.Prelude.{Contains, option_map, pos, ◌≤ℤ◌}
 use Rattle.mov_base.specs.Sums.{sum_z}
 use Rattle.std.proofs.lemmas.List.Elements.{All-append, All-cons, All-head, All-nil, All-tail}

@@ -8,10 +8,7 @@ use Rattle.ballot_form.specs.declared.rule.Rule.TheVariants.{Plurality}
 use Rattle.alteration_model.specs.Faults.{IsFirstFault, pairs_of}
 use Rattle.alteration_model.specs.declared.faults.AlterFault.{AlterFault}
 use Rattle.alteration_model.specs.declared.faults.AlterFault.TheVariants.{NumberRange, NotAscending, BadBallot, Memory}
-use Rattle.goal_rows.specs.Goals.{root_goals}
 use Rattle.goal_rows.specs.Outcomes.{IsReported}
-use Rattle.goal_rows.specs.Races.{IsRace}
-use Rattle.goal_rows.specs.declared.parts.Race.{Race}
 use Rattle.cert_text.specs.declared.cert.Cert.{Cert}
 use Rattle.cert_text.specs.declared.cert.Claim.{Claim}
 use Rattle.cert_text.specs.declared.cert.Claim.TheVariants.{Margin, Fixed, Bounds}
@@ -121,10 +118,3 @@ pub record IsRefusal (p : Poll) (cert : Cert) (reason : Reason) (line : ℕ) : T
 abbrev pub Judges : Poll → Cert → Verdict → Type 0
 Judges p cert Valid = IsJudged cert.rule × IsValidCert p cert
 Judges p cert (No reason line) = IsRefusal p cert reason line
-
--- the race is that of the certificate's rule, with its reported outcome and the root goals of that
-pub record IsRaceOf (race : Race) (cert : Cert) : Type 0 where
-  pub race : IsRace race
-  pub rule : race.rule ≡ cert.rule
-  pub outcome : race.reported ≡ cert.reported
-  pub roots : race.roots ≡ root_goals race.rule race.roll.now.c race.reported

@@ -53,15 +53,15 @@ pub(crate) fn walk(
 ) -> Result<End, Memory>
     requires race { IsRace race.now }
     requires start { IsGroundIn (election_of race.now) start.now }
-    requires limits { AreLimits (election_of race.now) (node_of start.now limits.old) }
+    requires limits { AreLimits (election_of race.now) (node_of start.now limits.old.items) }
     requires few { number + size (plain_of tree.now) < 2 ^ 32 }
     requires known { All (IsKnown (election_of race.now) asked)
-        (visits (election_of race.now) (node_of start.now limits.old) (plain_of tree.now)) }
+        (visits (election_of race.now) (node_of start.now limits.old.items) (plain_of tree.now)) }
     requires room { length race.now.kinds ≤ scratch.old }
     ensures room { scratch.new ≡ scratch.old }
-    ensures limits { IfOk result (λ end. limits.new ≡ limits.old) }
+    ensures limits { IfOk result (λ end. limits.new.items ≡ limits.old.items) }
     ensures end { IfOk result (EndsAt (Gives (election_of race.now) asked) number
-        (visits (election_of race.now) (node_of start.now limits.old) (plain_of tree.now))) }
+        (visits (election_of race.now) (node_of start.now limits.old.items) (plain_of tree.now))) }
 {
     if !gives(race, asked, start, limits.as_slice(), tree, scratch) {
         return Ok(End::Stopped(number));
@@ -111,14 +111,14 @@ fn walk_among(
 ) -> Result<End, Memory>
     requires race { IsRace race.now }
     requires same { length goals.now ≡ length kids.now }
-    requires limits { limits.old ≡ [] }
+    requires limits { limits.old.items ≡ [] }
     requires reached { All (IsReached (election_of race.now)) goals.now }
     requires few { number + sum_by (λ kid. size (plain_of kid)) kids.now < 2 ^ 32 }
     requires known { All (IsKnown (election_of race.now) asked)
         (visits_among (election_of race.now) goals.now (kids_of (map plain_of kids.now))) }
     requires room { length race.now.kinds ≤ scratch.old }
     ensures room { scratch.new ≡ scratch.old }
-    ensures limits { IfOk result (λ end. limits.new ≡ limits.old) }
+    ensures limits { IfOk result (λ end. limits.new.items ≡ limits.old.items) }
     ensures end { IfOk result (EndsAt (Gives (election_of race.now) asked) number
         (visits_among (election_of race.now) goals.now (kids_of (map plain_of kids.now)))) }
 {
@@ -150,19 +150,19 @@ fn walk_halves(
 ) -> Result<End, Memory>
     requires race { IsRace race.now }
     requires start { IsGroundIn (election_of race.now) start.now }
-    requires low { AreLimits (election_of race.now) (with_limit (node_of start.now limits.old) (low_limit feature value)) }
-    requires high { AreLimits (election_of race.now) (with_limit (node_of start.now limits.old) (high_limit feature value)) }
+    requires low { AreLimits (election_of race.now) (with_limit (node_of start.now limits.old.items) (low_limit feature value)) }
+    requires high { AreLimits (election_of race.now) (with_limit (node_of start.now limits.old.items) (high_limit feature value)) }
     requires few { number + size (plain_of low.now) + size (plain_of high.now) < 2 ^ 32 }
     requires low_known { All (IsKnown (election_of race.now) asked) (visits (election_of race.now)
-        (with_limit (node_of start.now limits.old) (low_limit feature value)) (plain_of low.now)) }
+        (with_limit (node_of start.now limits.old.items) (low_limit feature value)) (plain_of low.now)) }
     requires high_known { All (IsKnown (election_of race.now) asked) (visits (election_of race.now)
-        (with_limit (node_of start.now limits.old) (high_limit feature value)) (plain_of high.now)) }
+        (with_limit (node_of start.now limits.old.items) (high_limit feature value)) (plain_of high.now)) }
     requires room { length race.now.kinds ≤ scratch.old }
     ensures room { scratch.new ≡ scratch.old }
-    ensures limits { IfOk result (λ end. limits.new ≡ limits.old) }
+    ensures limits { IfOk result (λ end. limits.new.items ≡ limits.old.items) }
     ensures end { IfOk result (EndsAt (Gives (election_of race.now) asked) number
-        (visits (election_of race.now) (with_limit (node_of start.now limits.old) (low_limit feature value)) (plain_of low.now)
-        ++ visits (election_of race.now) (with_limit (node_of start.now limits.old) (high_limit feature value)) (plain_of high.now))) }
+        (visits (election_of race.now) (with_limit (node_of start.now limits.old.items) (low_limit feature value)) (plain_of low.now)
+        ++ visits (election_of race.now) (with_limit (node_of start.now limits.old.items) (high_limit feature value)) (plain_of high.now))) }
 {
     let at_most = Limit {
         feature,
@@ -197,15 +197,15 @@ fn walk_half(
 ) -> Result<End, Memory>
     requires race { IsRace race.now }
     requires start { IsGroundIn (election_of race.now) start.now }
-    requires limits { AreLimits (election_of race.now) (with_limit (node_of start.now limits.old) limit) }
+    requires limits { AreLimits (election_of race.now) (with_limit (node_of start.now limits.old.items) limit) }
     requires few { number + size (plain_of half.now) < 2 ^ 32 }
     requires known { All (IsKnown (election_of race.now) asked)
-        (visits (election_of race.now) (with_limit (node_of start.now limits.old) limit) (plain_of half.now)) }
+        (visits (election_of race.now) (with_limit (node_of start.now limits.old.items) limit) (plain_of half.now)) }
     requires room { length race.now.kinds ≤ scratch.old }
     ensures room { scratch.new ≡ scratch.old }
-    ensures limits { IfOk result (λ end. limits.new ≡ limits.old) }
+    ensures limits { IfOk result (λ end. limits.new.items ≡ limits.old.items) }
     ensures end { IfOk result (EndsAt (Gives (election_of race.now) asked) number
-        (visits (election_of race.now) (with_limit (node_of start.now limits.old) limit) (plain_of half.now))) }
+        (visits (election_of race.now) (with_limit (node_of start.now limits.old.items) limit) (plain_of half.now))) }
 {
     limits.push(limit)?;
     let end = walk(alloc, race, asked, start, limits, half, number, scratch)?;

@@ -24,7 +24,7 @@ decreases-walk_half l = 3 * size (plain_of l.half.now) + 1
 abbrev pub invariant-walk_among-loop-i : goal.invariant-walk_among-loop-i
 invariant-walk_among-loop-i l = record {
   room : l.scratch ≡ l.initial.scratch;
-  limits : l.limits ≡ [];
+  limits : l.limits.items ≡ [];
   few : l.next ≤ l.number + sum_by (λ kid. size (plain_of kid)) (take l.i l.kids);
   known : All (IsKnown (election_of l.race) l.asked) (rest_of (election_of l.race) l.goals l.kids l.i);
   rest : (end : End) → EndsAt (Gives (election_of l.race) l.asked) l.next (rest_of (election_of l.race) l.goals l.kids l.i) end
