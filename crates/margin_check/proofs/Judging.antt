@@ -2,14 +2,14 @@
 use Rattle.std.proofs.Common.{ℕ, zero, suc, List, [], ◌∷◌, Option, Some, None, All, Bool, true, false, IsTrue, ◌≡◌, ◌≢◌, ◌<◌, ◌≤◌, ◌+◌, ◌∙◌, ◌↔◌, length, cond, refl, ap, sym, subst, inl, inr, arith}
 use Rattle.std.specs.Prelude.{◌==◌, Err}
 use Rattle.std.proofs.lemmas.Bool.{false≢true}
-use Rattle.ballot_form.specs.Alterations.{after, after_from}
+use Rattle.ballot_form.specs.Alterations.{IsAlteration, after, after_from}
 use Rattle.ballot_form.specs.Ballots.{Poll}
 use Rattle.ballot_form.specs.Rules.{IsRule}
 use Rattle.ballot_form.specs.declared.limits.TheConstants.{MOST_BALLOTS}
 use Rattle.ballot_form.specs.declared.outcome.Outcome.{Outcome}
 use Rattle.ballot_form.specs.declared.rule.Rule.{Rule}
 use Rattle.ballot_form.specs.declared.rule.Rule.TheVariants.{Plurality, Borda, Condorcet, Dhondt, Irv}
-use Rattle.alteration_model.specs.Faults.{IsFirstFault, IsFirstFaultFrom, IsPutFault}
+use Rattle.alteration_model.specs.Faults.{IsFirstFault, IsFirstFaultFrom, IsPutFault, pairs_of}
 use Rattle.alteration_model.specs.Faults.{Judges as Judged}
 use Rattle.alteration_model.specs.declared.faults.AlterFault.{AlterFault}
 use Rattle.alteration_model.specs.declared.faults.AlterFault.TheVariants.{NumberRange, NotAscending, BadBallot, Memory}
@@ -19,7 +19,9 @@ use Rattle.bound_tree.specs.Plain.{Plain}
 use Rattle.goal_rows.specs.Elections.{Election, Node}
 use Rattle.goal_rows.specs.Goals.{IsDecidedByPairs, root_goals}
 use Rattle.goal_rows.specs.Outcomes.{IsReported}
-use Rattle.goal_rows.specs.Races.{election_of}
+use Rattle.goal_rows.specs.Nodes.{without_limits}
+use Rattle.goal_rows.specs.Races.{IsRace, election_of}
+use Rattle.goal_rows.specs.declared.goals.Goal.TheVariants.{Root}
 use Rattle.goal_rows.specs.declared.parts.Race.{Race}
 use Rattle.goal_rows.proofs.Reporting.{one_reported}
 use Rattle.cert_text.specs.CertText.{BodyFits, ClaimFits, IsPrintable}
@@ -27,13 +29,14 @@ use Rattle.cert_text.specs.declared.cert.Cert.{Cert}
 use Rattle.cert_text.specs.declared.cert.Claim.{Claim}
 use Rattle.cert_text.specs.declared.cert.Claim.TheVariants.{Margin, Fixed, Bounds}
 use Rattle.cert_text.specs.declared.cert.GoalText.{GoalText}
-use Rattle.margin_check.specs.Validity.{election_by}
+use Rattle.margin_check.specs.Validity.{ClaimHolds, IsTurned, cert_visits, election_by}
 use Rattle.margin_check.specs.Verdicts.{IsFirstWithout, IsJudged, IsRefusal, Judges, place_of}
 use Rattle.margin_check.specs.Visits.{Visit, visits}
-use Rattle.margin_check.specs.Walks.{EndsAt, IsWithin}
+use Rattle.margin_check.specs.Walks.{EndsAt, Gives, IsWithin}
 use Rattle.margin_check.specs.declared.verdict.Reason.{Reason}
 use Rattle.margin_check.specs.declared.verdict.Verdict.{Verdict}
 use Rattle.margin_check.specs.declared.verdict.Verdict.TheVariants.{No}
+use Rattle.margin_check.specs.declared.walk.Asked.{Asked}
 use Rattle.margin_check.specs.declared.walk.End.{End}
 use Rattle.margin_check.specs.declared.walk.End.TheVariants.{Through, Stopped}
 use Rattle.margin_check.proofs.Nodes.{visits_few}
@@ -128,3 +131,34 @@ pub stopped_few : (P : Visit → Type 0) (e : Election) (node : Node) (tree : Pl
 stopped_few P e node tree (Through next) few is = tt
 stopped_few P e node tree (Stopped at) few is = omega (arith, few, is.2, visits_few e node tree, first_within P (visits e node tree) is.0 is.1)
 
+-- ---- what is found of the race is so of the certificate's election
+
+module _ (p : Poll) (cert : Cert) (race : Race) (same : election_of race ≡ election_by p cert) where
+  pub reported_so : IsRace race → IsReported cert.rule p cert.reported
+  reported_so is = subst (λ e. IsReported e.rule e.poll e.reported) same is.election.reported
+
+  pub turned_so : (altered : Poll) (shown : List Put) (changes : List (ℕ × List ℕ)) (b : Bool) → altered ≡ after p changes → changes ≡ pairs_of shown → shown ≡ cert.puts
+      → (IsTrue b ↔ ClaimHolds (election_of race) cert.claim cert.goal altered.ballots) → IsTrue b ↔ IsTurned p cert
+  turned_so altered shown changes b made pairs lent test =
+      let ballots : altered.ballots ≡ (after p (pairs_of cert.puts)).ballots =
+      ap (λ (q : Poll). q.ballots) made ∙ ap (λ cs. (after p cs).ballots) (pairs ∙ ap pairs_of lent) in
+      subst (λ bs. IsTrue b ↔ ClaimHolds (election_by p cert) cert.claim cert.goal bs) ballots
+      (subst (λ e. IsTrue b ↔ ClaimHolds e cert.claim cert.goal altered.ballots) same test)
+
+  pub ends_so : (asked : Asked) (end : End) → EndsAt (Gives (election_of race) asked) 0 (visits (election_of race) (without_limits Root) cert.tree) end
+      → EndsAt (Gives (election_by p cert) asked) 0 (cert_visits p cert) end
+  ends_so asked end = subst (λ e. EndsAt (Gives e asked) 0 (visits e (without_limits Root) cert.tree) end) same
+
+pub fails_by : {X : Type 0} (b : Bool) → (IsTrue b ↔ X) → b ≡ false → X → ⊥
+fails_by b test wrong x = false≢true (sym wrong ∙ test.1 x)
+
+pub altered_so : (p : Poll) (cert : Cert) (shown : List Put) (changes : List (ℕ × List ℕ)) → changes ≡ pairs_of shown → shown ≡ cert.puts → IsAlteration p changes
+    → IsAlteration p (pairs_of cert.puts)
+altered_so p cert shown changes pairs lent = subst (λ cs. IsAlteration p cs) (pairs ∙ ap pairs_of lent)
+
+pub all_through : {X : Type 0} (P : X → Type 0) (number behind : ℕ) (xs : List X) (end : End) → end ≡ Through behind → EndsAt P number xs end → All P xs
+all_through P number behind xs end is ends = (subst (λ x. EndsAt P number xs x) is ends).0
+
+pub first_stopped : {X : Type 0} (P : X → Type 0) (number at : ℕ) (xs : List X) (end : End) → end ≡ Stopped at → EndsAt P number xs end
+    → (place : ℕ) × IsFirstWithout P xs place × (at ≡ number + place)
+first_stopped P number at xs end is ends = subst (λ x. EndsAt P number xs x) is ends

@@ -1,8 +1,9 @@
 -- Nodes of a tree of the program: their shape, and the visits below them.
-use Rattle.std.proofs.Common.{ℕ, zero, suc, List, [], ◌∷◌, ◌++◌, Some, None, All, Bool, true, false, IsTrue, ◌≡◌, ◌<◌, ◌≤◌, ◌+◌, ◌∙◌, ◌↔◌, length, map, take, drop, get_or, length-append, refl, ap, sym, subst, inr, arith}
+use Rattle.std.proofs.Common.{ℕ, zero, suc, List, [], ◌∷◌, ◌++◌, Some, None, All, Bool, true, false, IsTrue, ◌≡◌, ◌<◌, ◌≤◌, ◌+◌, ◌*◌, ◌∙◌, ◌↔◌, length, map, take, drop, get_or, length-append, refl, ap, sym, subst, inr, arith}
 use Rattle.std.specs.Prelude.{◌==◌, Contains, IfOk, Result, Ok, Err, option_map, sum_by}
-use Rattle.std.proofs.lemmas.Bool.{false≢true}
+use Rattle.std.proofs.lemmas.Bool.Decides.{nat_tests}
 use Rattle.std.proofs.lemmas.List.{drop_all, drop_more}
+use Rattle.std.proofs.lemmas.List.Sums.{sum_by_more_le}
 use Rattle.std.proofs.lemmas.List.Elements.{All-append, All-contains_itself, All-cons, All-head, All-nil, All-tail}
 use Rattle.std.proofs.lemmas.Option.{slice_get_read}
 use Rattle.row_program.specs.declared.Feature.{Feature}
@@ -16,9 +17,10 @@ use Rattle.bound_tree.specs.Plain as tree
 use Rattle.bound_tree.proofs.Shapes.{plain_Split, plain_Branch, plain_Cut, size_more}
 use Rattle.goal_rows.specs.Elections.{Election, Node}
 use Rattle.goal_rows.specs.Goals.{IsReached, cover_of}
-use Rattle.goal_rows.specs.Nodes.{IsFeatureOf, with_limit, without_limits}
+use Rattle.goal_rows.specs.Nodes.{AreLimits, IsFeatureOf, node_of, with_limit, without_limits}
 use Rattle.goal_rows.specs.declared.goals.Goal.{Goal}
 use Rattle.goal_rows.specs.declared.goals.Goal.TheVariants.{Root, Pair}
+use Rattle.goal_rows.specs.declared.parts.Ground.{Ground}
 use Rattle.goal_rows.proofs.Ways.{reached_exactly}
 use Rattle.margin_check.specs.Proving.{IsShaped, number_count}
 use Rattle.margin_check.specs.Verdicts.{IsFirstWithout}
@@ -37,7 +39,7 @@ kids_counted (kid ∷ kids) = ap suc (kids_counted kids)
 
 pub none_long : {X : Type 0} (xs : List X) → (length xs == 0) ≡ true → xs ≡ []
 none_long [] is = refl
-none_long (x ∷ xs) is = absurd (false≢true is)
+none_long (x ∷ xs) is = absurd (grind (arith, nat_tests))
 
 pub no_feature : (e : Election) (goal : Goal) (feature : Feature) → IsFeatureOf e goal feature → ⊥
 no_feature e Root feature h = h
@@ -171,6 +173,16 @@ pub known_below : (e : Election) (asked : Asked) (node : Node) (tree : Tree) (am
 known_below e asked node tree among are known =
     All-tail (IsKnown e asked) (visit_of node (plain_of tree)) among (subst (λ vs. All (IsKnown e asked) vs) are known)
 
+-- what is given and known where the limits are lent
+pub given_for : (e : Election) (asked : Asked) (start : Ground) (shown limits : List Limit) (tree : Plain) → shown ≡ limits
+    → Gives e asked (visit_of (node_of start shown) tree) → Gives e asked (visit_of (node_of start limits) tree)
+given_for e asked start shown limits tree same = subst (λ ls. Gives e asked (visit_of (node_of start ls) tree)) same
+
+pub known_for : (e : Election) (asked : Asked) (start : Ground) (shown limits : List Limit) (tree : Plain) → shown ≡ limits
+    → All (IsKnown e asked) (visits e (node_of start limits) tree) → IsKnown e asked (visit_of (node_of start shown) tree)
+known_for e asked start shown limits tree same known =
+    subst (λ ls. IsKnown e asked (visit_of (node_of start ls) tree)) (sym same) (first_known e asked (node_of start limits) tree known)
+
 -- a branch hasn't its shape yet
 pub no_branch : (e : Election) (asked : Asked) (node : Node) (tree : Tree) (feature : Feature) (value : ℕ) (low high : Tree)
     → tree ≡ program.Branch feature value low high → All (IsKnown e asked) (visits e node (plain_of tree)) → Gives e asked (visit_of node (plain_of tree)) → ⊥
@@ -236,6 +248,27 @@ kids_from e goals kids i d kid first second same =
     let k : drop i kids ≡ kid ∷ drop (i + 1) kids = drop_more kids i kid second ∙ ap (λ k. k ∷ drop (i + 1) kids) (sym same) in
     rw (g, k) refl
 
+-- what is known of a kid, and of those behind it
+pub kid_known : (P : Visit → Type 0) (e : Election) (goals : List Goal) (kids : List Tree) (i : ℕ) (d : Goal) (kid : Tree) → i < length goals → i < length kids → kid ≡ get_or kids i kid
+    → All P (rest_of e goals kids i) → All P (visits e (without_limits (get_or goals i d)) (plain_of kid)) × All P (rest_of e goals kids (i + 1))
+kid_known P e goals kids i d kid first second same known =
+    let all : All P (visits e (without_limits (get_or goals i d)) (plain_of kid) ++ rest_of e goals kids (i + 1)) =
+    subst (λ vs. All P vs) (kids_from e goals kids i d kid first second same) known in (
+      before P (visits e (without_limits (get_or goals i d)) (plain_of kid)) (rest_of e goals kids (i + 1)) all,
+      behind P (visits e (without_limits (get_or goals i d)) (plain_of kid)) (rest_of e goals kids (i + 1)) all,
+    )
+
+pub no_limits : (e : Election) (node : Node) → node.limits ≡ [] → AreLimits e node
+no_limits e node free = record {
+  few = omega (arith, ap length free);
+  small = λ k d lt. absurd (omega (arith, lt, ap length free));
+  features = λ k d lt. absurd (omega (arith, lt, ap length free));
+}
+
+-- a kid's ground is its goal without limits
+pub kid_node : (start : Ground) (limits : List Limit) (goal : Goal) → start.goal ≡ goal → limits ≡ [] → node_of start limits ≡ without_limits goal
+kid_node start limits goal same free = rw (same, free) refl
+
 -- the end over this kid and those behind it
 pub kid_stops : (P : Visit → Type 0) (here rest all : List Visit) (next at : ℕ) (end : End) → all ≡ here ++ rest → end ≡ Stopped at → EndsAt P next here end
     → EndsAt P next all (Stopped at)
@@ -262,3 +295,16 @@ kid_few P e goal kids i number next behind kid given within same few is here =
     let f = visits_few e (without_limits goal) (plain_of kid) in
     let m = size_more kids i kid (slice_get_read kids (length kids) i kid refl within same) in
     omega (arith, f, m, few, through.1)
+
+-- a kid's numbers fit
+pub kid_fits : (kids : List Tree) (i number next : ℕ) (kid : Tree) → i < length kids → kid ≡ get_or kids i kid → next ≤ number + sum_by (λ k. size (plain_of k)) (take i kids)
+    → number + sum_by (λ k. size (plain_of k)) kids < 4294967296 → next + size (plain_of kid) < 4294967296
+kid_fits kids i number next kid within same few fits =
+    let m = sum_by_more_le (λ k. size (plain_of k)) kids i kid within in
+    omega (arith, m, few, fits, ap (λ k. size (plain_of k)) same)
+
+pub kid_smaller : (kids : List Tree) (i : ℕ) (kid : Tree) → i < length kids → kid ≡ get_or kids i kid
+    → 3 * size (plain_of kid) < 3 * sum_by (λ k. size (plain_of k)) kids + 1
+kid_smaller kids i kid within same =
+    let m = sum_by_more_le (λ k. size (plain_of k)) kids i kid within in
+    omega (arith, m, ap (λ k. size (plain_of k)) same)

@@ -94,7 +94,6 @@ one_place P (x ∷ xs) zero (suc other) is also = absurd (is also.0)
 one_place P (x ∷ xs) (suc place) zero is also = absurd (also is.0)
 one_place P (x ∷ xs) (suc place) (suc other) is also = ap suc (one_place P xs place other is.1 also.1)
 
-
 -- a node has its shape, or passes where the certificate's cuts are tested
 abbrev pub Shaped : Poll → Cert → Visit → Type 0
 Shaped p cert visit = IsShaped (election_by p cert) visit.node visit.tree

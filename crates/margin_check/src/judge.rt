@@ -108,7 +108,16 @@ fn walk_tree(
     let _ = tree.nodes();
     let start = ground(alloc, race, &Goal::Root)?;
     let mut limits = Vec::new(alloc);
-    walk(alloc, race, asked, &start, &mut limits, tree.at(0), 0, scratch)
+    walk(
+        alloc,
+        race,
+        asked,
+        &start,
+        &mut limits,
+        tree.at(0),
+        0,
+        scratch,
+    )
 }
 
 /// The line in which the certificate's tree begins.

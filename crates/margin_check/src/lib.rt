@@ -20,4 +20,3 @@ pub use laws::{
     visits_are_the_nodes_in_preorder,
 };
 pub use verdict::{Reason, Verdict};
-

@@ -40,7 +40,7 @@ pub(crate) enum End {
 /// Walks over the nodes of a tree, whose topmost node has this number, the goal of this ground, and these limits. The limits are the
 /// same afterwards, unless memory ran out.
 #[cycle(walk)]
-#[tactic(auto, using(bound_tree::proofs::Shapes::size_Split, crate::proofs::Nodes::no_branch))]
+#[tactic(auto, using(bound_tree::proofs::Shapes::size_Split, crate::proofs::Nodes::no_branch, crate::proofs::Nodes::walk_stops, crate::proofs::Nodes::walk_over_cut))]
 pub(crate) fn walk(
     alloc: Global,
     race: &Race<'_>,
@@ -174,7 +174,9 @@ fn walk_halves(
         at_most: false,
         value: value + 1,
     };
-    match walk_half(alloc, race, asked, start, limits, at_most, low, number, scratch)? {
+    match walk_half(
+        alloc, race, asked, start, limits, at_most, low, number, scratch,
+    )? {
         End::Through(behind) => walk_half(
             alloc, race, asked, start, limits, at_least, high, behind, scratch,
         ),

@@ -1,0 +1,156 @@
+use Rattle.std.proofs.Common.{All, ◌≡◌, ◌+◌, ◌∙◌, ap, arith, length, refl, subst, sym}
+use Rattle.ballot_form.specs.Ballots.{Poll}
+use Rattle.goal_rows.specs.Outcomes.{IsReported}
+use Rattle.margin_check.specs.Validity.{cert_visits, election_by, level_of}
+use Rattle.margin_check.specs.Verdicts.{IsFirstWithout}
+use Rattle.margin_check.specs.Walks.{Gives}
+use Rattle.margin_check.specs.declared.verdict.Reason.TheVariants as reasons
+use Rattle.margin_check.specs.declared.walk.Asked.TheVariants.{Shape, Cuts}
+use Rattle.margin_check.proofs.Judging.{all_through, altered_so, as_many_after, ends_so, fails_by, few_places, first_stopped, judged_pairs, other_outcome, refuse, reported_so, same_election, turned_so}
+use Rattle.margin_check.proofs.judge.judge.Goals as goal
+
+pub returns-then-not-equals : goal.returns-then-not-equals
+returns-then-not-equals c =
+    let p = c.args.roll.now in
+    let cert = c.args.cert.now in
+    let race = c.in_ok-race.race in
+    let judged = c.is_judged.ensures.0 c.if-not-is_judged.false in
+    let sizes = c.has_sizes.ensures.0 c.if-not-has_sizes.false in
+    let here = subst (λ r. IsReported r p race.reported) c.in_ok-race.ensures.rule (subst (λ q. IsReported race.rule q race.reported) c.in_ok-race.ensures.roll c.in_ok-race.ensures.race.election.reported) in
+    refuse p cert reasons.ReportedDiffers 4 c.refused-then-not-equals.result c.refused-then-not-equals.ensures (record {
+      before = (judged, (sizes, tt));
+      fails = (other_outcome cert.rule p race.reported cert.reported c.equals.result here c.equals.ensures c.if-not-equals.true, refl);
+    })
+
+pub bad_alteration-requires : goal.bad_alteration-requires
+bad_alteration-requires c =
+    record { few = few_places c.args.roll.now c.args.cert.now c.as_slice.result.now c.in-Err.fault c.requires.printable c.as_slice.ensures c.in-Err.ensures.gives }
+
+pub claim_holds-requires-clause-same_length : goal.claim_holds-requires-clause-same_length
+claim_holds-requires-clause-same_length c =
+    as_many_after c.args.roll.now c.in_ok-altered.altered c.in-Ok.changes c.in_ok-altered.ensures ∙ sym (ap (λ (q : Poll). length q.ballots) c.in_ok-race.ensures.roll)
+
+pub returns-then-not-claim_holds : goal.returns-then-not-claim_holds
+returns-then-not-claim_holds c =
+    let p = c.args.roll.now in
+    let cert = c.args.cert.now in
+    let race = c.in_ok-race.race in
+    let judged = c.is_judged.ensures.0 c.if-not-is_judged.false in
+    let sizes = c.has_sizes.ensures.0 c.if-not-has_sizes.false in
+    let outcome = c.equals.ensures.0 c.if-not-equals.false in
+    let same = same_election race p cert c.in_ok-race.ensures.rule c.in_ok-race.ensures.roll outcome c.in_ok-race.ensures.roots in
+    let reported = reported_so p cert race same c.in_ok-race.ensures.race in
+    let alteration = altered_so p cert c.as_slice.result.now c.in-Ok.changes c.in-Ok.ensures.gives.1 c.as_slice.ensures c.in-Ok.ensures.alteration in
+    let claim = turned_so p cert race same c.in_ok-altered.altered c.as_slice.result.now c.in-Ok.changes c.claim_holds.result c.in_ok-altered.ensures c.in-Ok.ensures.gives.1 c.as_slice.ensures
+    c.claim_holds.ensures in
+    refuse p cert reasons.ClaimFails 6 c.refused-then-not-claim_holds.result c.refused-then-not-claim_holds.ensures (record {
+      before = (judged, (sizes, (reported, (alteration, tt))));
+      fails = (fails_by c.claim_holds.result claim c.if-not-claim_holds.true, refl);
+    })
+
+pub returns-in-Stopped : goal.returns-in-Stopped
+returns-in-Stopped c =
+    let p = c.args.roll.now in
+    let cert = c.args.cert.now in
+    let race = c.in_ok-race.race in
+    let judged = c.is_judged.ensures.0 c.if-not-is_judged.false in
+    let sizes = c.has_sizes.ensures.0 c.if-not-has_sizes.false in
+    let outcome = c.equals.ensures.0 c.if-not-equals.false in
+    let same = same_election race p cert c.in_ok-race.ensures.rule c.in_ok-race.ensures.roll outcome c.in_ok-race.ensures.roots in
+    let reported = reported_so p cert race same c.in_ok-race.ensures.race in
+    let alteration = altered_so p cert c.as_slice.result.now c.in-Ok.changes c.in-Ok.ensures.gives.1 c.as_slice.ensures c.in-Ok.ensures.alteration in
+    let claim = turned_so p cert race same c.in_ok-altered.altered c.as_slice.result.now c.in-Ok.changes c.claim_holds.result c.in_ok-altered.ensures c.in-Ok.ensures.gives.1 c.as_slice.ensures
+    c.claim_holds.ensures in
+    let turned = claim.0 c.if-not-claim_holds.false in
+    let first = first_stopped (Gives (election_by p cert) Shape) 0 c.in-Stopped.number (cert_visits p cert) c.in_ok-number.field-0 c.in-Stopped.is
+    (ends_so p cert race same Shape c.in_ok-number.field-0 c.in_ok-number.ensures.end) in
+    refuse p cert reasons.ShapeDiffers (c.first_line.result + c.in-Stopped.number) c.refused-in-Stopped.result c.refused-in-Stopped.ensures (record {
+      before = (judged, (sizes, (reported, (alteration, (turned, tt)))));
+      fails = (first.0, first.1, omega (arith, first.2, c.first_line.ensures.value));
+    })
+
+pub returns-in-Stopped-2 : goal.returns-in-Stopped-2
+returns-in-Stopped-2 c =
+    let p = c.args.roll.now in
+    let cert = c.args.cert.now in
+    let race = c.in_ok-race.race in
+    let judged = c.is_judged.ensures.0 c.if-not-is_judged.false in
+    let sizes = c.has_sizes.ensures.0 c.if-not-has_sizes.false in
+    let outcome = c.equals.ensures.0 c.if-not-equals.false in
+    let same = same_election race p cert c.in_ok-race.ensures.rule c.in_ok-race.ensures.roll outcome c.in_ok-race.ensures.roots in
+    let reported = reported_so p cert race same c.in_ok-race.ensures.race in
+    let alteration = altered_so p cert c.as_slice.result.now c.in-Ok.changes c.in-Ok.ensures.gives.1 c.as_slice.ensures c.in-Ok.ensures.alteration in
+    let claim = turned_so p cert race same c.in_ok-altered.altered c.as_slice.result.now c.in-Ok.changes c.claim_holds.result c.in_ok-altered.ensures c.in-Ok.ensures.gives.1 c.as_slice.ensures
+    c.claim_holds.ensures in
+    let turned = claim.0 c.if-not-claim_holds.false in
+    let shape = all_through (Gives (election_by p cert) Shape) 0 c.in_default.field-0 (cert_visits p cert) c.in_ok-number.field-0 c.in_default.is
+    (ends_so p cert race same Shape c.in_ok-number.field-0 c.in_ok-number.ensures.end) in
+    let t : c.level.result ≡ level_of (length p.ballots) cert.claim = c.level.ensures ∙ ap (λ n. level_of n cert.claim) c.len-2.ensures.value in
+    let first = first_stopped (Gives (election_by p cert) (Cuts c.level.result)) 0 c.in-Stopped-2.number (cert_visits p cert) c.in_ok-number-2.field-0 c.in-Stopped-2.is
+    (ends_so p cert race same (Cuts c.level.result) c.in_ok-number-2.field-0 c.in_ok-number-2.ensures.end) in
+    refuse p cert reasons.CutFails (c.first_line-in-Stopped-2.result + c.in-Stopped-2.number) c.refused-in-Stopped-2.result c.refused-in-Stopped-2.ensures (record {
+      before = (judged, (sizes, (reported, (alteration, (turned, (shape, tt))))));
+      fails = (
+        first.0,
+        subst (λ n. IsFirstWithout (Gives (election_by p cert) (Cuts n)) (cert_visits p cert) first.0) t first.1,
+        omega (arith, first.2, c.first_line-in-Stopped-2.ensures.value),
+      );
+    })
+
+pub returns-then-not-has_order : goal.returns-then-not-has_order
+returns-then-not-has_order c =
+    let p = c.args.roll.now in
+    let cert = c.args.cert.now in
+    let race = c.in_ok-race.race in
+    let judged = c.is_judged.ensures.0 c.if-not-is_judged.false in
+    let sizes = c.has_sizes.ensures.0 c.if-not-has_sizes.false in
+    let outcome = c.equals.ensures.0 c.if-not-equals.false in
+    let same = same_election race p cert c.in_ok-race.ensures.rule c.in_ok-race.ensures.roll outcome c.in_ok-race.ensures.roots in
+    let reported = reported_so p cert race same c.in_ok-race.ensures.race in
+    let alteration = altered_so p cert c.as_slice.result.now c.in-Ok.changes c.in-Ok.ensures.gives.1 c.as_slice.ensures c.in-Ok.ensures.alteration in
+    let claim = turned_so p cert race same c.in_ok-altered.altered c.as_slice.result.now c.in-Ok.changes c.claim_holds.result c.in_ok-altered.ensures c.in-Ok.ensures.gives.1 c.as_slice.ensures
+    c.claim_holds.ensures in
+    let turned = claim.0 c.if-not-claim_holds.false in
+    let shape = all_through (Gives (election_by p cert) Shape) 0 c.in_default.field-0 (cert_visits p cert) c.in_ok-number.field-0 c.in_default.is
+    (ends_so p cert race same Shape c.in_ok-number.field-0 c.in_ok-number.ensures.end) in
+    let t : c.level.result ≡ level_of (length p.ballots) cert.claim = c.level.ensures ∙ ap (λ n. level_of n cert.claim) c.len-2.ensures.value in
+    let cuts = subst (λ n. All (Gives (election_by p cert) (Cuts n)) (cert_visits p cert)) t
+    (all_through (Gives (election_by p cert) (Cuts c.level.result)) 0 c.in_default-2.field-0 (cert_visits p cert) c.in_ok-number-2.field-0 c.in_default-2.is
+    (ends_so p cert race same (Cuts c.level.result) c.in_ok-number-2.field-0 c.in_ok-number-2.ensures.end)) in
+    refuse p cert reasons.NumbersDisagree 5 c.refused-then-not-has_order.result c.refused-then-not-has_order.ensures (record {
+      before = (judged, (sizes, (reported, (alteration, (turned, (shape, (cuts, tt)))))));
+      fails = (fails_by c.has_order.result c.has_order.ensures c.if-not-has_order.true, refl);
+    })
+
+pub returns : goal.returns
+returns c =
+    let p = c.args.roll.now in
+    let cert = c.args.cert.now in
+    let race = c.in_ok-race.race in
+    let judged = c.is_judged.ensures.0 c.if-not-is_judged.false in
+    let sizes = c.has_sizes.ensures.0 c.if-not-has_sizes.false in
+    let outcome = c.equals.ensures.0 c.if-not-equals.false in
+    let same = same_election race p cert c.in_ok-race.ensures.rule c.in_ok-race.ensures.roll outcome c.in_ok-race.ensures.roots in
+    let reported = reported_so p cert race same c.in_ok-race.ensures.race in
+    let alteration = altered_so p cert c.as_slice.result.now c.in-Ok.changes c.in-Ok.ensures.gives.1 c.as_slice.ensures c.in-Ok.ensures.alteration in
+    let claim = turned_so p cert race same c.in_ok-altered.altered c.as_slice.result.now c.in-Ok.changes c.claim_holds.result c.in_ok-altered.ensures c.in-Ok.ensures.gives.1 c.as_slice.ensures
+    c.claim_holds.ensures in
+    let turned = claim.0 c.if-not-claim_holds.false in
+    let shape = all_through (Gives (election_by p cert) Shape) 0 c.in_default.field-0 (cert_visits p cert) c.in_ok-number.field-0 c.in_default.is
+    (ends_so p cert race same Shape c.in_ok-number.field-0 c.in_ok-number.ensures.end) in
+    let t : c.level.result ≡ level_of (length p.ballots) cert.claim = c.level.ensures ∙ ap (λ n. level_of n cert.claim) c.len-2.ensures.value in
+    let cuts = subst (λ n. All (Gives (election_by p cert) (Cuts n)) (cert_visits p cert)) t
+    (all_through (Gives (election_by p cert) (Cuts c.level.result)) 0 c.in_default-2.field-0 (cert_visits p cert) c.in_ok-number-2.field-0 c.in_default-2.is
+    (ends_so p cert race same (Cuts c.level.result) c.in_ok-number-2.field-0 c.in_ok-number-2.ensures.end)) in (
+      judged,
+      record {
+        built = judged_pairs cert.rule cert.reported judged;
+        head = sizes;
+        reported = reported;
+        alteration = alteration;
+        claim = turned;
+        shape = shape;
+        cuts = cuts;
+        numbers = c.has_order.ensures.0 c.if-not-has_order.false;
+      },
+    )
