@@ -197,7 +197,8 @@ fn put_at(tree: &mut Tree, node: u32, new: Tree) -> u32
     ensures grown { plain_of tree.new ≡ replaced node (plain_of new) (plain_of tree.old) }
     ensures depth { IsAtDepth (plain_of tree.old) node result }
     ensures within { result ≤ height (plain_of tree.old) }
-    ensures lines { lines_of (plain_of tree.new) ≡ spliced node (lines_of (plain_of new)) (lines_of (plain_of tree.old)) }
+    ensures lines { lines_of (plain_of tree.new)
+        ≡ spliced node (lines_of (plain_of new)) (lines_of (plain_of tree.old)) }
     ensures size { size (plain_of tree.new) + 1 ≡ size (plain_of tree.old) + size (plain_of new) }
     ensures cuts { cut_count (plain_of tree.new) + 1 ≡ cut_count (plain_of tree.old) + cut_count (plain_of new) }
     ensures height { height (plain_of tree.new) + 1

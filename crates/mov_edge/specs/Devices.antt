@@ -12,8 +12,8 @@ pub record FilesState : Type 0 where
   pub calls : ℕ
   pub faults : ℕ
 
--- a sink in memory with room for so many bytes, that takes at most `step` a call, and fails at the calls with the listed
--- numbers
+-- a sink in memory with room for so many bytes, that takes at most `step` a call, and fails at the calls with the
+-- listed numbers
 pub record SinkState : Type 0 where
   pub taken : List ℕ
   pub room : ℕ

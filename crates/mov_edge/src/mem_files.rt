@@ -126,8 +126,12 @@ impl Files for MemFiles {
         ensures fails { IsErr result
             ↔ (IsNextListed self.old.failing self.old.calls ⊎ Lacks (Some self.old.told) name.now) }
         ensures counted { CountsListed self.old.failing self.old.calls self.old.faults self.new.faults }
-        ensures rest { self.new ≡ record self.old
-            { at = self.new.at; begun = next_count self.old.begun; calls = next_count self.old.calls; faults = self.new.faults } }
+        ensures rest { self.new ≡ record self.old {
+          at = self.new.at;
+          begun = next_count self.old.begun;
+          calls = next_count self.old.calls;
+          faults = self.new.faults;
+        } }
     {
         self.calls = self.calls.saturating_add(1);
         self.begun = self.begun.saturating_add(1);
