@@ -7,7 +7,7 @@ use Rattle.csv.specs.Reading.{default_config, records}
 use Rattle.csv.specs.Writing.{default_writer, escaped, field_text, fields_text, is_blank, read_back, row_text}
 use Rattle.csv.specs.declared.parser.State.TheVariants as st
 use Rattle.csv.proofs.RoundTrip.{read-write}
-use Rattle.ballot_csv.specs.PlainForm.{plain_writer, text_of_rows}
+use Rattle.ballot_csv.specs.PlainForm.{plain_writer, text_of_records}
 use Rattle.ballot_csv.proofs.LeftFacts.{no_more, one_more}
 
 same_escaped : (field : List ℕ) → escaped plain_writer field ≡ escaped default_writer field
@@ -36,10 +36,10 @@ same_row (field ∷ next ∷ rest) = rw (same_escaped field, same_fields (next �
 abbrev pub HasCells : List (List ℕ) → Type 0
 HasCells row = read_back row ≡ row
 
-pub records_back : (rows : List (List (List ℕ))) → All HasCells rows → records default_config (text_of_rows rows) ≡ rows
-unfolding text_of_rows next_record
+pub records_back : (rows : List (List (List ℕ))) → All HasCells rows → records default_config (text_of_records rows) ≡ rows
+unfolding text_of_records next_record
 records_back [] cells = no_more st.StartRecord [] refl
 records_back (row ∷ rows) cells =
-    one_more st.StartRecord (row_text plain_writer row ++ text_of_rows rows) (row, st.StartRecord, text_of_rows rows) refl
-    (rw (same_row row, read-write row (text_of_rows rows), cells 0 row (omega arith)) refl)
+    one_more st.StartRecord (row_text plain_writer row ++ text_of_records rows) (row, st.StartRecord, text_of_records rows) refl
+    (rw (same_row row, read-write row (text_of_records rows), cells 0 row (omega arith)) refl)
     ∙ ap (λ t. row ∷ t) (records_back rows (λ k d within. cells (suc k) d (omega (arith, within))))

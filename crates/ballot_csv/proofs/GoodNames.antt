@@ -10,7 +10,8 @@ use Rattle.std.proofs.lemmas.List.Folds.{list_any_at}
 use Rattle.std.proofs.lemmas.List.Quantifiers.{all_pairs_push}
 use Rattle.std.proofs.lemmas.Slice.Eq.{bytes_eq-Decides}
 use Rattle.ballot_form.specs.Names.{is_name}
-use Rattle.ballot_csv.specs.HeadRow.{filled_fault, head_fault, name_fault, names_fault, names_of, or_later, without_empty_end}
+use Rattle.ballot_form.specs.declared.limits.TheConstants.{MOST_CANDIDATES}
+use Rattle.ballot_csv.specs.HeadRecord.{filled_fault, head_fault, name_fault, names_fault, names_of, or_later, without_empty_end}
 use Rattle.ballot_csv.specs.declared.fault.BallotKind.{BallotKind}
 
 -- no two names are the same
@@ -59,7 +60,7 @@ filled_good [] none = cc none
 filled_good (first ∷ names) none = elim (cases_Bool (bytes_eq first (codes "ballots"))) [
   | inl ours ↦ elim (cases_Bool (length names == 0)) [
     | inl few ↦ cc (rw (ours, few) at none)
-    | inr some ↦ elim (cases_Bool (nat_lt 12 (length names))) [
+    | inr some ↦ elim (cases_Bool (nat_lt MOST_CANDIDATES (length names))) [
       | inl many ↦ cc (rw (ours, some, many) at none)
       | inr fits ↦ rw (ours, some, fits) at none
     ]

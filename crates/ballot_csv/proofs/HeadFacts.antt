@@ -7,8 +7,9 @@ use Rattle.std.proofs.lemmas.Str.{IsUtf8-from_is_utf8, is_utf8-from_IsUtf8}
 use Rattle.std.proofs.lemmas.List.{drop_more}
 use Rattle.std.proofs.lemmas.Grind.{common_steps}
 use Rattle.std.proofs.lemmas.Option.{get_or_from_slice_get, slice_get_within}
+use Rattle.ballot_form.specs.declared.limits.TheConstants.{MOST_CANDIDATES}
 use Rattle.ballot_csv.specs.OneRecord.{is_empty}
-use Rattle.ballot_csv.specs.HeadRow.{before_filled, head_fault, name_fault, names_fault, or_later, without_empty_end}
+use Rattle.ballot_csv.specs.HeadRecord.{before_filled, head_fault, name_fault, names_fault, or_later, without_empty_end}
 use Rattle.ballot_csv.proofs.CellFacts.{until_more}
 
 empty_last : (xs : List (List ℕ)) (x : List ℕ) → is_empty x ≡ true → without_empty_end (xs ++ x ∷ []) ≡ without_empty_end xs
@@ -64,7 +65,7 @@ at_none xs n none all =
     rw empty at all
 
 -- a head whose first cell is right has the fault of its names
-pub head_good : (cells : List (List ℕ)) (n : ℕ) (first : List ℕ) → 1 < n → n ≤ 13 → n ≤ length cells → slice_get cells 0 ≡ Some first
+pub head_good : (cells : List (List ℕ)) (n : ℕ) (first : List ℕ) → 1 < n → n ≤ MOST_CANDIDATES + 1 → n ≤ length cells → slice_get cells 0 ≡ Some first
     → bytes_eq first (codes "ballots") ≡ true → take n cells ≡ without_empty_end cells → head_fault cells ≡ names_fault [] (drop 1 (take n cells))
 head_good [] n first some few within at ours filled = cc at
 head_good (x ∷ cells) zero first some few within at ours filled = absurd (omega (arith, some))
@@ -72,7 +73,7 @@ head_good (x ∷ cells) (suc n) first some few within at ours filled =
     let here : x ≡ first = some_is x first at in
     let size : length (take n cells) ≡ n = grind (arith, common_steps) in
     let one : (n == 0) ≡ false = grind arith in
-    let fits : nat_lt 12 n ≡ false = grind arith in
+    let fits : nat_lt MOST_CANDIDATES n ≡ false = grind arith in
     rw (← filled, here, ours, size, one, fits) refl
   where
     some_is : (a b : List ℕ) → Some a ≡ Some b → a ≡ b

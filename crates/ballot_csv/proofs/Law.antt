@@ -15,11 +15,12 @@ use Rattle.csv.specs.Reading.{default_config, records}
 use Rattle.csv.specs.Writing.{fields_text}
 use Rattle.ballot_form.specs.Ballots.{IsPoll, IsValidBallot}
 use Rattle.ballot_form.specs.Names.{is_name}
+use Rattle.ballot_form.specs.declared.limits.TheConstants.{MOST_BALLOTS, MOST_CANDIDATES}
 use Rattle.ballot_csv.specs.BallotFile.{NamedPoll, read_of, read_records}
-use Rattle.ballot_csv.specs.HeadRow.{head_fault, names_fault, names_of, without_empty_end}
+use Rattle.ballot_csv.specs.HeadRecord.{head_fault, names_fault, names_of, without_empty_end}
 use Rattle.ballot_csv.specs.Marks.{without_marks}
 use Rattle.ballot_csv.specs.OneRecord.{is_empty}
-use Rattle.ballot_csv.specs.PlainForm.{name_at, plain_form, plain_records, record_of, run_records, runs_of, text_of_rows, with_ballot}
+use Rattle.ballot_csv.specs.PlainForm.{name_at, plain_form, plain_records, record_of, run_records, runs_of, text_of_records, with_ballot}
 use Rattle.ballot_csv.proofs.Back.{HasCells, records_back}
 use Rattle.ballot_csv.proofs.Reread.{IsNamed, IsReadable, Writable, first_all, rest_all, rows_back, rows_good, runs_back, spread}
 
@@ -109,7 +110,7 @@ runs_readable names [] all = tt
 runs_readable names (ballot ∷ ballots) all =
     with_readable names ballot (runs_of ballots) (first_all (IsReadable names) ballot ballots all) (runs_readable names ballots (rest_all (IsReadable names) ballot ballots all))
 
-writable : (names : List (List ℕ)) (before : ℕ) (runs : List (ℕ × List ℕ)) → RunsReadable names runs → before + length (spread runs) ≤ 1000000 → Writable names before runs
+writable : (names : List (List ℕ)) (before : ℕ) (runs : List (ℕ × List ℕ)) → RunsReadable names runs → before + length (spread runs) ≤ MOST_BALLOTS → Writable names before runs
 writable names before [] all few = tt
 writable names before (run ∷ runs) all few =
     let size = length-append (replicate run.0 run.1) (spread runs) in
@@ -125,15 +126,15 @@ have_cells k = All-cons HasCells (codes "ballots" ∷ k.names) (run_records k.na
 
 -- the plain form begins with no mark
 no_mark : (names : List (List ℕ)) (rows : List (List (List ℕ)))
-    → without_marks (text_of_rows ((codes "ballots" ∷ names) ∷ rows)) ≡ text_of_rows ((codes "ballots" ∷ names) ∷ rows)
-unfolding without_marks text_of_rows fields_text
+    → without_marks (text_of_records ((codes "ballots" ∷ names) ∷ rows)) ≡ text_of_records ((codes "ballots" ∷ names) ∷ rows)
+unfolding without_marks text_of_records fields_text
 no_mark names rows = refl
 
-head_good : (names : List (List ℕ)) → 1 ≤ length names → length names ≤ 12 → without_empty_end (codes "ballots" ∷ names) ≡ codes "ballots" ∷ names
+head_good : (names : List (List ℕ)) → 1 ≤ length names → length names ≤ MOST_CANDIDATES → without_empty_end (codes "ballots" ∷ names) ≡ codes "ballots" ∷ names
     → names_fault [] names ≡ None → head_fault (codes "ballots" ∷ names) ≡ None
 head_good names some few filled good =
     let one : (length names == 0) ≡ false = grind (arith, nat_tests) in
-    let fits : nat_lt 12 (length names) ≡ false = grind (arith, nat_tests) in
+    let fits : nat_lt MOST_CANDIDATES (length names) ≡ false = grind (arith, nat_tests) in
     rw (filled, one, fits) good
 
 records_read : (k : NamedPoll) → head_fault (codes "ballots" ∷ k.names) ≡ None → names_of (codes "ballots" ∷ k.names) ≡ k.names → length k.names ≡ k.poll.c

@@ -1,9 +1,8 @@
 pub mod Back
 pub mod BallotFacts
 pub mod CellFacts
-pub mod CountFacts
 pub mod FormFacts
-pub mod GivesFacts
+pub mod FaultFacts
 pub mod GoodFile
 pub mod GoodNames
 pub mod HeadFacts

@@ -1,18 +1,16 @@
 -- The runs of a contest are read back as its ballots.
-use Rattle.std.proofs.Common.{ℕ, List, [], ◌∷◌, ◌++◌, ◌≡◌, ◌∙◌, ◌+◌, ◌<◌, ◌≤◌, ◌^◌, refl, sym, ap, ap₂, All, Bool, false, true, Some, None, length, zero, suc, arith, inl, inr, map, replicate, add-one, get_or}
-use Rattle.std.specs.Prelude.{◌==◌, ◌&&◌, ⊤, decimal, filter, nat_lt, not, slice_index}
-use Rattle.std.specs.List.{filter_map, flat_map, list_all, list_any}
-use Rattle.std.specs.Char.{is_ascii_digit}
+use Rattle.std.proofs.Common.{ℕ, List, [], ◌∷◌, ◌++◌, ◌≡◌, ◌∙◌, ◌+◌, ◌<◌, ◌≤◌, ◌^◌, refl, sym, ap, ap₂, All, Bool, false, true, Some, None, length, suc, arith, inl, inr, map, replicate, add-one, get_or}
+use Rattle.std.specs.Prelude.{◌==◌, ⊤, decimal, filter, nat_lt, not}
+use Rattle.std.specs.List.{filter_map, flat_map, list_any}
 use Rattle.std.specs.Str.{bytes_eq}
-use Rattle.std.specs.Str.Parse.{AllDigits}
 use Rattle.std.proofs.lemmas.Bool.{cases_Bool, ne_eqb, not_from_false}
-use Rattle.std.proofs.lemmas.Fmt.{decimal_digit, decimal_is_IsNumeral, first_decimal}
+use Rattle.std.proofs.lemmas.Fmt.{decimal_is_IsNumeral}
 use Rattle.std.proofs.lemmas.List.{length-replicate}
 use Rattle.std.proofs.lemmas.Slice.Eq.{bytes_eq-Decides}
-use Rattle.std.proofs.lemmas.Str.Parse.{digit_from_value}
 use Rattle.ballot_form.specs.Ballots.{AreDistinct}
-use Rattle.ballot_csv.specs.BallotFile.{rows_fault}
-use Rattle.ballot_csv.specs.Counts.{has_leading_zero, is_number, number_of}
+use Rattle.ballot_form.specs.declared.limits.TheConstants.{MOST_BALLOTS}
+use Rattle.ballot_csv.specs.BallotFile.{records_fault}
+use Rattle.text_lines.proofs.Inverse.{number_of-decimal}
 use Rattle.ballot_csv.specs.OneRecord.{ballot_of, ballots_of, candidate_of, is_empty, is_unknown, candidate_named, record_fault, without_repeats}
 use Rattle.ballot_csv.specs.PlainForm.{name_at, record_of, runs_of, with_ballot}
 
@@ -31,32 +29,6 @@ one_before ballot (run ∷ runs) = elim (cases_Bool (bytes_eq ballot run.1)) [
 pub runs_back : (ballots : List (List ℕ)) → spread (runs_of ballots) ≡ ballots
 runs_back [] = refl
 runs_back (ballot ∷ ballots) = one_before ballot (runs_of ballots) ∙ ap (λ t. ballot ∷ t) (runs_back ballots)
-
-digits_are : (text : List ℕ) → AllDigits 10 text → list_all is_ascii_digit text ≡ true
-digits_are [] h = refl
-digits_are (c ∷ cs) h =
-    let range = digit_from_value c h.0 in
-    let here : is_ascii_digit c ≡ true = grind (arith, range) in
-    rw (here, digits_are cs h.1) refl
-
-starts_right : (n : ℕ) → n < 2 ^ 64 → has_leading_zero (decimal n) ≡ false
-starts_right zero h = rw (decimal_digit 0 (omega arith)) refl
-starts_right (suc n) h =
-    let first = first_decimal (suc n) (omega arith) h in
-    let other : (slice_index (decimal (suc n)) 0 == 48) ≡ false = grind (arith, first) in
-    rw other (and_no (nat_lt 1 (length (decimal (suc n)))))
-  where
-    and_no : (b : Bool) → (b && false) ≡ false
-    and_no true = refl
-    and_no false = refl
-
--- a count that is printed is read as what it was
-count_back : (n : ℕ) → n < 2 ^ 64 → number_of (decimal n) ≡ Some n
-count_back n h =
-    let numeral = decimal_is_IsNumeral n h in
-    let some : (length (decimal n) == 0) ≡ false = grind (arith, numeral.0.0) in
-    let number : is_number (decimal n) ≡ true = rw (some, starts_right n h, digits_are (decimal n) numeral.0.1) refl in
-    rw (number, numeral.1) refl
 
 pub rest_all : {X : Type 0} (P : X → Type 0) (x : X) (xs : List X) → All P (x ∷ xs) → All P xs
 rest_all P x xs all k d within = all (suc k) d (omega arith)
@@ -103,24 +75,24 @@ known_back names (x ∷ xs) named =
 -- the runs can be written and read: not too many ballots, and each with candidates that are named
 abbrev pub Writable : List (List ℕ) → ℕ → List (ℕ × List ℕ) → Type 0
 Writable names before [] = ⊤
-Writable names before (run ∷ runs) = (before + run.0 ≤ 1000000) × IsReadable names run.1 × Writable names (before + run.0) runs
+Writable names before (run ∷ runs) = (before + run.0 ≤ MOST_BALLOTS) × IsReadable names run.1 × Writable names (before + run.0) runs
 
-run_is_good : (names : List (List ℕ)) (before : ℕ) (run : ℕ × List ℕ) → before + run.0 ≤ 1000000 → IsReadable names run.1
+run_is_good : (names : List (List ℕ)) (before : ℕ) (run : ℕ × List ℕ) → before + run.0 ≤ MOST_BALLOTS → IsReadable names run.1
     → record_fault names before (record_of names run) ≡ None
 run_is_good names before run few readable =
     let small : run.0 < 2 ^ 64 = omega (arith, few) in
     let some : is_empty (decimal run.0) ≡ false = grind (arith, (decimal_is_IsNumeral run.0 small).0.0) in
-    let fits : nat_lt 1000000 (before + run.0) ≡ false = grind (arith, few) in
-    rw (count_back run.0 small, some, known_back names run.1 readable.named, fits) refl
+    let fits : nat_lt MOST_BALLOTS (before + run.0) ≡ false = grind (arith, few) in
+    rw (number_of-decimal run.0 small, some, known_back names run.1 readable.named, fits) refl
 
 run_is_back : (names : List (List ℕ)) (run : ℕ × List ℕ) → run.0 < 2 ^ 64 → IsReadable names run.1 → ballots_of names (record_of names run) ≡ replicate run.0 run.1
 run_is_back names run small readable =
     let some : is_empty (decimal run.0) ≡ false = grind (arith, (decimal_is_IsNumeral run.0 small).0.0) in
-    rw (count_back run.0 small, some) (ap (replicate run.0) (ballot_back names run.1 readable))
+    rw (number_of-decimal run.0 small, some) (ap (replicate run.0) (ballot_back names run.1 readable))
 
 -- the records of the runs have no fault
 pub rows_good : (names : List (List ℕ)) (at before : ℕ) (runs : List (ℕ × List ℕ)) → Writable names before runs
-    → rows_fault names at before (map (record_of names) runs) ≡ None
+    → records_fault names at before (map (record_of names) runs) ≡ None
 rows_good names at before [] h = refl
 rows_good names at before (run ∷ runs) h =
     let small : run.0 < 2 ^ 64 = omega (arith, h.0) in

@@ -1,4 +1,5 @@
--- The records that a reader of bytes has left.
+-- The records that a reader of bytes has left: how the crate itself sees its reader. No public clause cites it, and
+-- nobody needs to believe it.
 use Rattle.std.specs.Prelude.{ℕ, List, [], ◌+◌, ◌≡◌, length, Some, false, true, unwrap_or, option_map, IsSome}
 use Rattle.std.specs.Borrow.{Bor}
 use Rattle.csv.specs.Machine.{ends_at_end}

@@ -1,7 +1,6 @@
 pub mod BallotFile
-pub mod Counts
-pub mod Gives
-pub mod HeadRow
+pub mod Faults
+pub mod HeadRecord
 pub mod Left
 pub mod Marks
 pub mod OneRecord

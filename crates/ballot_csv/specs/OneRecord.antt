@@ -2,7 +2,8 @@
 use Rattle.std.specs.Prelude.{ℕ, List, [], ◌∷◌, ◌++◌, ◌+◌, ◌==◌, ◌&&◌, Bool, not, length, Option, Some, None, is_none, unwrap_or, if◌then◌else◌, filter, position, replicate, nat_lt}
 use Rattle.std.specs.List.{filter_map, list_all, list_any}
 use Rattle.std.specs.Str.{bytes_eq}
-use Rattle.ballot_csv.specs.Counts.{number_of}
+use Rattle.text_lines.specs.Numbers.{number_of}
+use Rattle.ballot_form.specs.declared.limits.TheConstants.{MOST_BALLOTS}
 use Rattle.ballot_csv.specs.declared.fault.BallotKind.{BallotKind}
 use Rattle.ballot_csv.specs.declared.fault.BallotKind.TheVariants.{BadCount, TooManyBallots, UnknownName}
 
@@ -39,7 +40,7 @@ abbrev pub count_fault : List (List ℕ) → ℕ → Option ℕ → List (List �
 count_fault names before None cells = Some BadCount
 count_fault names before (Some n) cells =
     if list_any (is_unknown names) cells then Some UnknownName
-    else if nat_lt 1000000 (before + n) then Some TooManyBallots
+    else if nat_lt MOST_BALLOTS (before + n) then Some TooManyBallots
     else None
 
 -- what is wrong with a record that so many ballots stand before

@@ -10,9 +10,9 @@ abbrev pub plain_writer : WriterBuilder
 plain_writer = with_flexible default_writer true
 
 -- the text of records, one after the other
-unfoldable pub text_of_rows : List (List (List ℕ)) → List ℕ
-text_of_rows [] = []
-text_of_rows (row ∷ rows) = row_text plain_writer row ++ text_of_rows rows
+unfoldable pub text_of_records : List (List (List ℕ)) → List ℕ
+text_of_records [] = []
+text_of_records (row ∷ rows) = row_text plain_writer row ++ text_of_records rows
 
 -- a ballot before runs of equal ballots
 abbrev pub with_ballot : List ℕ → List (ℕ × List ℕ) → List (ℕ × List ℕ)
@@ -42,4 +42,4 @@ plain_records k = (codes "ballots" ∷ k.names) ∷ run_records k.names k.poll.b
 
 -- the bytes of the plain form
 abbrev pub plain_form : NamedPoll → List ℕ
-plain_form k = text_of_rows (plain_records k)
+plain_form k = text_of_records (plain_records k)

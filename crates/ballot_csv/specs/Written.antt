@@ -1,4 +1,5 @@
--- What a plain writer has written.
+-- What a plain writer has written: how the crate itself sees its writer. No public clause cites it, and nobody needs to
+-- believe it.
 use Rattle.std.specs.Prelude.{ℕ, List, [], ◌≡◌, IsSome, Option, false, unwrap_or}
 use Rattle.csv.specs.Writing.{fields_written, has_written, text_written, writer_setup}
 use Rattle.csv.specs.declared.writer.Writer.{Writer}

@@ -6,9 +6,9 @@ use csv::ByteRecord;
 
 /// The cell of a record with this number, from 0.
 #[tactic(auto, using(crate::proofs::CellFacts::got, crate::proofs::CellFacts::same_place))]
-pub(crate) fn cell_at(row: &ByteRecord, i: usize) -> &[u8]
-    requires { i < length (fields_of row.now) }
-    ensures { slice_get (fields_of row.now) i ≡ Some result.now }
+pub(crate) fn cell_at(cells: &ByteRecord, i: usize) -> &[u8]
+    requires { i < length (fields_of cells.now) }
+    ensures { slice_get (fields_of cells.now) i ≡ Some result.now }
 {
-    row.get(i).unwrap()
+    cells.get(i).unwrap()
 }

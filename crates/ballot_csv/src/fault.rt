@@ -1,5 +1,6 @@
 // What is wrong with a ballot file.
 ghost use Rattle.std.specs.Prelude.{◌≡◌};
+ghost use Rattle.ballot_csv.specs.Faults.{ballot_kind_text};
 ghost use Rattle.ballot_csv.specs.declared.fault.BallotKind.TheVariants.{Memory};
 
 use mov_base::Memory;
@@ -38,6 +39,26 @@ pub enum BallotKind {
     /// There was no memory.
     #[error("out of memory")]
     Memory,
+}
+
+impl BallotKind {
+    /// What is said of the fault.
+    pub fn text(&self) -> &'static str
+        ensures { result.now ≡ ballot_kind_text self.now }
+    {
+        match self {
+            BallotKind::Empty => "empty",
+            BallotKind::BadHead => "bad head",
+            BallotKind::NoCandidates => "no candidates",
+            BallotKind::TooManyCandidates => "too many candidates",
+            BallotKind::BadName => "bad name",
+            BallotKind::NameTwice => "name twice",
+            BallotKind::BadCount => "bad count",
+            BallotKind::UnknownName => "unknown name",
+            BallotKind::TooManyBallots => "too many ballots",
+            BallotKind::Memory => "out of memory",
+        }
+    }
 }
 
 impl From<Memory> for BallotKind {

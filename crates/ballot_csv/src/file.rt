@@ -3,8 +3,8 @@ ghost use Rattle.std.specs.Prelude.{◌≡◌, ◌<◌, ◌^◌, [], ◌∷◌, 
 ghost use Rattle.std.specs.List.{flat_map};
 ghost use Rattle.csv.specs.Records.{fields_of};
 ghost use Rattle.ballot_csv.specs.BallotFile as file;
-ghost use Rattle.ballot_csv.specs.BallotFile.{Gives, read_of};
-ghost use Rattle.ballot_csv.specs.Gives.{OrMemory};
+ghost use Rattle.ballot_csv.specs.BallotFile.{ReadsContest, read_of};
+ghost use Rattle.ballot_csv.specs.Faults.{OrMemory};
 ghost use Rattle.ballot_csv.specs.OneRecord.{ballots_of};
 ghost use Rattle.ballot_csv.specs.declared.fault.BallotKind.TheVariants as BallotKind;
 
@@ -20,7 +20,7 @@ use std::alloc::Global;
 /// The contest of a ballot file, or the first fault with the number of its record.
 #[tactic(auto, unfolding(crate::specs::BallotFile::read_of))]
 pub fn read_ballots(alloc: Global, bytes: &[u8]) -> Result<Contest, BallotFault>
-    ensures { Gives result (read_of bytes.now) }
+    ensures { ReadsContest result (read_of bytes.now) }
 {
     let mut records = Records::of(alloc, bytes);
     let mut head = ByteRecord::new(alloc);
@@ -41,21 +41,19 @@ fn read_after(
     mut records: Records,
 ) -> Result<Contest, BallotFault>
     requires few { length records < 2 ^ 63 }
-    ensures { Gives result (file.read_records (fields_of head.now ∷ records.entry)) }
+    ensures { ReadsContest result (file.read_records (fields_of head.now ∷ records.entry)) }
 {
     let (names, index) = match read_head(alloc, head) {
         Ok(names) => names,
         Err(kind) => return Err(BallotFault { kind, at: 1 }),
     };
     let mut roll = Roll::new(alloc, names.len() as u8);
-    match read_rows(alloc, &index, &mut records, &mut roll) {
-        Ok(()) => Ok(Contest { names, roll }),
-        Err(fault) => Err(fault),
-    }
+    add_records(alloc, &index, &mut records, &mut roll)?;
+    Ok(Contest { names, roll })
 }
 
 /// Reads the records below the head onto the roll.
-fn read_rows(
+fn add_records(
     alloc: Global,
     names: &NameIndex,
     records: &mut Records,
@@ -63,15 +61,16 @@ fn read_rows(
 ) -> Result<(), BallotFault>
     requires names { length names.now ≡ roll.old.c }
     requires few { length records.old < 2 ^ 63 }
-    ensures good { OnOk result (file.rows_fault names.now 2 (length roll.old.ballots) records.old ≡ None) }
-    ensures rows { OnOk result (roll.new.ballots ≡ roll.old.ballots ++ flat_map (ballots_of names.now) records.old) }
+    ensures good { OnOk result (file.records_fault names.now 2 (length roll.old.ballots) records.old ≡ None) }
+    ensures ballots { OnOk result (roll.new.ballots ≡ roll.old.ballots ++ flat_map (ballots_of names.now) records.old) }
     ensures names { OnOk result (roll.new.c ≡ roll.old.c) }
-    ensures err { IfErr result (λ fault. OrMemory fault.kind (file.rows_fault names.now 2 (length roll.old.ballots) records.old ≡ Some fault)) }
+    ensures err { IfErr result (λ fault. OrMemory fault.kind
+        (file.records_fault names.now 2 (length roll.old.ballots) records.old ≡ Some fault)) }
 {
-    let mut row = ByteRecord::new(alloc);
+    let mut cells = ByteRecord::new(alloc);
     let mut at = 2u64;
-    while has_next(records, &mut row)? {
-        if let Err(kind) = add_record(alloc, names, &row, roll) {
+    while has_next(records, &mut cells)? {
+        if let Err(kind) = add_record(alloc, names, &cells, roll) {
             return Err(BallotFault { kind, at });
         }
         at += 1;
@@ -80,11 +79,12 @@ fn read_rows(
 }
 
 /// Reads the next record, and tells whether there was one.
-fn has_next(records: &mut Records, row: &mut ByteRecord) -> Result<bool, BallotFault>
-    ensures found { IfOk result (λ found. MatchBool found (records.old ≡ fields_of row.new ∷ records.new) (records.old ≡ [])) }
+fn has_next(records: &mut Records, cells: &mut ByteRecord) -> Result<bool, BallotFault>
+    ensures found { IfOk result
+        (λ found. MatchBool found (records.old ≡ fields_of cells.new ∷ records.new) (records.old ≡ [])) }
     ensures err { IfErr result (λ fault. fault.kind ≡ BallotKind.Memory) }
 {
-    match records.read(row) {
+    match records.read(cells) {
         Ok(found) => Ok(found),
         Err(_) => Err(no_memory()),
     }

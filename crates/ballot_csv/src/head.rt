@@ -4,14 +4,14 @@ ghost use Rattle.std.specs.List.{list_all};
 ghost use Rattle.std.specs.Str.{bytes_eq};
 ghost use Rattle.csv.specs.Records.{fields_of};
 ghost use Rattle.ballot_form.specs.Names.{is_name, is_plain_byte};
-ghost use Rattle.ballot_csv.specs.HeadRow as spec;
-ghost use Rattle.ballot_csv.specs.Gives.{OrMemory};
+ghost use Rattle.ballot_csv.specs.HeadRecord as spec;
+ghost use Rattle.ballot_csv.specs.Faults.{OrMemory};
 ghost use Rattle.ballot_csv.specs.declared.fault.BallotKind.TheVariants as BallotKind;
 
 use crate::cells::cell_at;
 use crate::fault::BallotKind;
 use crate::names::NameIndex;
-use ballot_form::{MOST_CANDIDATES, Names, Text};
+use ballot_form::{LONGEST_NAME, MOST_CANDIDATES, Names, Text};
 use csv::ByteRecord;
 use mov_base::Memory;
 use std::alloc::Global;
@@ -26,7 +26,7 @@ pub(crate) fn read_head<'a>(
     ensures names { IfOk result (λ p. p.0 ≡ spec.names_of (fields_of head.now)) }
     ensures index { IfOk result (λ p. p.1 ≡ spec.names_of (fields_of head.now)) }
     ensures some { IfOk result (λ p. 0 < length p.0) }
-    ensures most { IfOk result (λ p. length p.0 ≤ 12) }
+    ensures most { IfOk result (λ p. length p.0 ≤ MOST_CANDIDATES) }
     ensures err { IfErr result (λ kind. OrMemory kind (spec.head_fault (fields_of head.now) ≡ Some kind)) }
 {
     let len = filled_len(head);
@@ -36,7 +36,7 @@ pub(crate) fn read_head<'a>(
     if len == 1 {
         return Err(BallotKind::NoCandidates);
     }
-    if len > MOST_CANDIDATES + 1 {
+    if len > usize::from(MOST_CANDIDATES) + 1 {
         return Err(BallotKind::TooManyCandidates);
     }
     read_names(alloc, head, len)
@@ -51,13 +51,13 @@ fn is_head_word(cell: &[u8]) -> bool
 
 /// How many cells of a record stand before the empty ones at its end.
 #[tactic(auto, using(crate::proofs::HeadFacts::one_less, crate::proofs::HeadFacts::none_less))]
-fn filled_len(row: &ByteRecord) -> usize
-    ensures filled { take result (fields_of row.now) ≡ spec.without_empty_end (fields_of row.now) }
-    ensures within { result ≤ length (fields_of row.now) }
+fn filled_len(cells: &ByteRecord) -> usize
+    ensures filled { take result (fields_of cells.now) ≡ spec.without_empty_end (fields_of cells.now) }
+    ensures within { result ≤ length (fields_of cells.now) }
 {
-    let mut len = row.len();
+    let mut len = cells.len();
     while len > 0 {
-        if !cell_at(row, len - 1).is_empty() {
+        if !cell_at(cells, len - 1).is_empty() {
             return len;
         }
         len -= 1;
@@ -73,20 +73,19 @@ fn read_names<'a>(
     len: usize,
 ) -> Result<(Names, NameIndex<'a>), BallotKind>
     requires some { 1 < len }
-    requires few { len ≤ 13 }
+    requires few { len ≤ MOST_CANDIDATES + 1 }
     requires within { len ≤ length (fields_of head.now) }
     ensures good { OnOk result (spec.names_fault [] (drop 1 (take len (fields_of head.now))) ≡ None) }
     ensures names { IfOk result (λ p. p.0 ≡ drop 1 (take len (fields_of head.now))) }
     ensures index { IfOk result (λ p. p.1 ≡ drop 1 (take len (fields_of head.now))) }
     ensures count { IfOk result (λ p. length p.0 + 1 ≡ len) }
-    ensures err { IfErr result (λ kind. OrMemory kind (spec.names_fault [] (drop 1 (take len (fields_of head.now))) ≡ Some kind)) }
+    ensures err { IfErr result
+        (λ kind. OrMemory kind (spec.names_fault [] (drop 1 (take len (fields_of head.now))) ≡ Some kind)) }
 {
     let mut names = Names::new(alloc);
     let mut index = NameIndex::new(alloc);
     for i in 1..len {
-        if let Err(kind) = add_name(alloc, cell_at(head, i), &mut names, &mut index) {
-            return Err(kind);
-        }
+        add_name(alloc, cell_at(head, i), &mut names, &mut index)?;
     }
     Ok((names, index))
 }
@@ -99,7 +98,7 @@ fn add_name<'a>(
     index: &mut NameIndex<'a>,
 ) -> Result<(), BallotKind>
     requires same { index.old ≡ names.old }
-    requires room { length names.old < 12 }
+    requires room { length names.old < MOST_CANDIDATES }
     ensures good { OnOk result (spec.name_fault names.old cell.now ≡ None) }
     ensures names { OnOk result (names.new ≡ names.old ++ cell.now ∷ []) }
     ensures index { OnOk result (index.new ≡ names.old ++ cell.now ∷ []) }
@@ -129,9 +128,10 @@ fn push_name(alloc: Global, text: &str, names: &mut Names) -> Result<(), Memory>
 /// The text of a cell that may be a name.
 #[tactic(auto, using(crate::proofs::HeadFacts::text_of_utf8, crate::proofs::HeadFacts::no_text_of_utf8))]
 fn name_text(cell: &[u8]) -> Option<&str>
-    ensures { MatchOption result (is_name cell.now ≡ false) (λ text. (text.now ≡ cell.now) × (is_name cell.now ≡ true)) }
+    ensures { MatchOption result (is_name cell.now ≡ false)
+        (λ text. (text.now ≡ cell.now) × (is_name cell.now ≡ true)) }
 {
-    if cell.is_empty() || cell.len() > 64 || !is_plain(cell) {
+    if cell.is_empty() || cell.len() > LONGEST_NAME || !is_plain(cell) {
         return None;
     }
     from_utf8(cell).ok()

@@ -4,7 +4,7 @@
 //! `read_ballots` answers exactly what the definition of reading in `specs/` says of the file's records: the contest, or the first
 //! fault with the number of its record. `print_ballots` gives exactly the plain form, and the definition of reading says of it
 //! just the contest that was printed. Want of memory aside, neither has another answer; an error of `csv` is given as want of
-//! memory. The crate stands on `mov_base` and `ballot_form`.
+//! memory. The crate stands on `mov_base`, on `ballot_form` and on the reader of numbers of `text_lines`.
 #![tactic(auto)]
 
 mod cells;
@@ -12,6 +12,7 @@ mod count;
 mod fault;
 mod file;
 mod head;
+mod limits;
 mod marks;
 mod names;
 mod plain;
@@ -21,7 +22,5 @@ mod records;
 
 pub use fault::{BallotFault, BallotKind};
 pub use file::read_ballots;
+pub use limits::LONGEST_FILE;
 pub use print::print_ballots;
-
-#[cfg(test)]
-mod tests;

@@ -4,7 +4,7 @@ ghost use Rattle.std.specs.List.{list_any};
 ghost use Rattle.std.specs.Str.{bytes_eq};
 ghost use Rattle.ballot_csv.specs.OneRecord.{candidate_named};
 
-use ballot_form::Cand;
+use ballot_form::{Cand, MOST_CANDIDATES};
 use indexmap::IndexSet;
 use mov_base::Memory;
 use std::alloc::Global;
@@ -18,12 +18,13 @@ pub(crate) struct NameIndex<'a> {
 
 impl<'a> Model for NameIndex<'a> {
     ghost use Rattle.std.specs.Prelude.{ℕ, List, map, length, ◌≤◌};
+    ghost use Rattle.ballot_form.specs.declared.limits.TheConstants.{MOST_CANDIDATES};
 
     ghost Value = { List (List ℕ) };
 
     ghost view = { λ r. map (λ n. n.now) r.names.keys };
 
-    ghost invariant = { λ r. length r.names.keys ≤ 12 };
+    ghost invariant = { λ r. length r.names.keys ≤ MOST_CANDIDATES };
 }
 
 impl<'a> NameIndex<'a> {
@@ -51,8 +52,10 @@ impl<'a> NameIndex<'a> {
     /// Adds a name at the end, and tells whether it wasn't there.
     #[tactic(auto, using(crate::proofs::NameFacts::any_of_map))]
     pub(crate) fn add(&mut self, name: &'a [u8]) -> Result<bool, Memory>
-        requires { length self.old < 12 }
-        ensures added { IfOk result (λ added. MatchBool added ((list_any (bytes_eq name.now) self.old ≡ false) × (self.new ≡ self.old ++ name.now ∷ [])) (list_any (bytes_eq name.now) self.old ≡ true)) }
+        requires { length self.old < MOST_CANDIDATES }
+        ensures added { IfOk result (λ added. MatchBool added
+            ((list_any (bytes_eq name.now) self.old ≡ false) × (self.new ≡ self.old ++ name.now ∷ []))
+            (list_any (bytes_eq name.now) self.old ≡ true)) }
     {
         Ok(self.names.insert(name)?)
     }

@@ -42,14 +42,16 @@ impl PlainText {
     }
 
     /// Writes a record. Any error of the crate is want of memory, after which nothing more is written.
-    pub(crate) fn write(&mut self, row: &ByteRecord) -> Result<(), Memory>
-        ensures { OnOk result (self.new ≡ self.old ++ row_text plain_writer (fields_of row.now)) }
+    pub(crate) fn write(&mut self, cells: &ByteRecord) -> Result<(), Memory>
+        ensures { OnOk result (self.new ≡ self.old ++ row_text plain_writer (fields_of cells.now)) }
     {
         if self.failed {
             return Err(AllocError);
         }
         self.failed = true;
-        self.writer.write_byte_record(row).map_err(|_| AllocError)?;
+        self.writer
+            .write_byte_record(cells)
+            .map_err(|_| AllocError)?;
         self.failed = false;
         Ok(())
     }

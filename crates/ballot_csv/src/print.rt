@@ -2,11 +2,12 @@
 ghost use Rattle.std.specs.Prelude.{◌≡◌, ◌+◌, ◌<◌, ◌≤◌, ◌++◌, [], ◌∷◌, All, codes, decimal, drop, length, slice_get, Some, IfOk, IfSome, OnOk};
 ghost use Rattle.csv.specs.Records.{fields_of, partial_of};
 ghost use Rattle.ballot_csv.specs.BallotFile.{IsRead, named_poll_of};
-ghost use Rattle.ballot_csv.specs.PlainForm.{plain_form, record_of, run_records, runs_of, text_of_rows};
+ghost use Rattle.ballot_csv.specs.PlainForm.{plain_form, record_of, run_records, runs_of, text_of_records};
 
 use crate::plain::PlainText;
 use ballot_form::{Cand, Contest, Names, Roll, Text};
 use csv::ByteRecord;
+use itoa::Buffer;
 use mov_base::Memory;
 use std::alloc::Global;
 
@@ -15,41 +16,37 @@ pub fn print_ballots(alloc: Global, contest: &Contest) -> Result<Vec<u8>, Memory
     ensures text { IfOk result (λ bytes. bytes.items ≡ plain_form (named_poll_of contest.now)) }
     ensures back { IfOk result (λ bytes. IsRead bytes.items contest.now) }
 {
-    let cells = contest.roll.candidates() as usize + 1;
-    let mut row = ByteRecord::with_capacity(alloc, 0, cells)?;
+    let count = usize::from(contest.roll.candidates()) + 1;
+    let mut cells = ByteRecord::with_capacity(alloc, 0, count)?;
     let mut text = PlainText::new(alloc);
-    head_row(&contest.names, &mut row)?;
-    text.write(&row)?;
-    write_runs(alloc, contest, &mut row, &mut text)?;
+    head_record(&contest.names, &mut cells)?;
+    text.write(&cells)?;
+    write_runs(contest, &mut cells, &mut text)?;
     text.into_bytes()
 }
 
 /// Makes the head.
-fn head_row(names: &Names, row: &mut ByteRecord) -> Result<(), Memory>
-    ensures { OnOk result (fields_of row.new ≡ codes "ballots" ∷ names.now) }
+fn head_record(names: &Names, cells: &mut ByteRecord) -> Result<(), Memory>
+    ensures { OnOk result (fields_of cells.new ≡ codes "ballots" ∷ names.now) }
 {
-    row.clear();
-    row.push_field(b"ballots".as_slice())?;
+    cells.clear();
+    cells.push_field(b"ballots".as_slice())?;
     for name in names.as_slice() {
-        row.push_field(name.as_str().as_bytes())?;
+        cells.push_field(name.as_str().as_bytes())?;
     }
     Ok(())
 }
 
 /// Writes a record for each longest run of equal ballots.
-fn write_runs(
-    alloc: Global,
-    contest: &Contest,
-    row: &mut ByteRecord,
-    text: &mut PlainText,
-) -> Result<(), Memory>
-    ensures { OnOk result (text.new ≡ text.old ++ text_of_rows (run_records contest.now.names contest.now.roll.ballots)) }
+fn write_runs(contest: &Contest, cells: &mut ByteRecord, text: &mut PlainText) -> Result<(), Memory>
+    ensures { OnOk result (text.new
+        ≡ text.old ++ text_of_records (run_records contest.now.names contest.now.roll.ballots)) }
 {
     let mut start = 0;
     while start < contest.roll.len() {
         let count = run_len(&contest.roll, start);
-        run_row(alloc, contest, start, count, row)?;
-        text.write(row)?;
+        run_record(contest, start, count, cells)?;
+        text.write(cells)?;
         start += count;
     }
     Ok(())
@@ -60,7 +57,8 @@ fn run_len(roll: &Roll, start: u32) -> u32
     requires { start < length roll.now.ballots }
     ensures some { 0 < result }
     ensures within { start + result ≤ length roll.now.ballots }
-    ensures run { IfSome (slice_get roll.now.ballots start) (λ ballot. runs_of (drop start roll.now.ballots) ≡ (result, ballot) ∷ runs_of (drop (start + result) roll.now.ballots)) }
+    ensures run { IfSome (slice_get roll.now.ballots start) (λ ballot. runs_of (drop start roll.now.ballots)
+        ≡ (result, ballot) ∷ runs_of (drop (start + result) roll.now.ballots)) }
 {
     let len = roll.len();
     let ballot = roll.row(start);
@@ -73,43 +71,42 @@ fn run_len(roll: &Roll, start: u32) -> u32
 }
 
 /// Makes the record of so many ballots that are equal to the one with the number `start + 1`.
-fn run_row(
-    alloc: Global,
+fn run_record(
     contest: &Contest,
     start: u32,
     count: u32,
-    row: &mut ByteRecord,
+    cells: &mut ByteRecord,
 ) -> Result<(), Memory>
     requires { start < length contest.now.roll.ballots }
-    ensures { OnOk result (IfSome (slice_get contest.now.roll.ballots start) (λ ballot. fields_of row.new ≡ record_of contest.now.names (count, ballot))) }
+    ensures { OnOk result (IfSome (slice_get contest.now.roll.ballots start)
+        (λ ballot. fields_of cells.new ≡ record_of contest.now.names (count, ballot))) }
 {
     let ballot = contest.roll.row(start);
-    fill_row(alloc, contest.names.as_slice(), count, ballot, row)
+    fill_record(contest.names.as_slice(), count, ballot, cells)
 }
 
 /// Makes the record of so many ballots that are equal to this one.
-fn fill_row(
-    alloc: Global,
+fn fill_record(
     names: &[Text],
     count: u32,
     ballot: &[Cand],
-    row: &mut ByteRecord,
+    cells: &mut ByteRecord,
 ) -> Result<(), Memory>
     requires { All (λ x. x < length names.now) ballot.now }
-    ensures { OnOk result (fields_of row.new ≡ record_of names.now (count, ballot.now)) }
+    ensures { OnOk result (fields_of cells.new ≡ record_of names.now (count, ballot.now)) }
 {
-    row.clear();
-    push_count(alloc, count, row)?;
+    cells.clear();
+    push_count(count, cells)?;
     for x in ballot {
-        row.push_field(names[*x as usize].as_str().as_bytes())?;
+        cells.push_field(names[*x as usize].as_str().as_bytes())?;
     }
     Ok(())
 }
 
 /// Adds a number as a cell.
-fn push_count(alloc: Global, count: u32, row: &mut ByteRecord) -> Result<(), Memory>
-    ensures { OnOk result ((partial_of row.old ≡ []) → (fields_of row.new ≡ fields_of row.old ++ decimal count ∷ []) × (partial_of row.new ≡ [])) }
+fn push_count(count: u32, cells: &mut ByteRecord) -> Result<(), Memory>
+    ensures { OnOk result ((partial_of cells.old ≡ [])
+        → (fields_of cells.new ≡ fields_of cells.old ++ decimal count ∷ []) × (partial_of cells.new ≡ [])) }
 {
-    let text = format!(in alloc; "{count}")?;
-    row.push_field(text.as_bytes())
+    cells.push_field(Buffer::new().format(count).as_bytes())
 }

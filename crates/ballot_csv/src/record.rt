@@ -3,7 +3,7 @@ ghost use Rattle.std.specs.Prelude.{◌≡◌, ◌+◌, ◌++◌, ◌<◌, ◌�
 ghost use Rattle.std.specs.List.{list_all, list_any};
 ghost use Rattle.csv.specs.Records.{fields_of};
 ghost use Rattle.ballot_csv.specs.OneRecord.{ballot_of, ballots_of, candidate_of, is_empty, is_unknown, record_fault, with_candidate};
-ghost use Rattle.ballot_csv.specs.Gives.{OrMemory};
+ghost use Rattle.ballot_csv.specs.Faults.{OrMemory};
 ghost use Rattle.ballot_csv.specs.declared.fault.BallotKind.TheVariants as BallotKind;
 
 use crate::cells::cell_at;
@@ -18,21 +18,23 @@ use std::alloc::Global;
 pub(crate) fn add_record(
     alloc: Global,
     names: &NameIndex,
-    row: &ByteRecord,
+    cells: &ByteRecord,
     roll: &mut Roll,
 ) -> Result<(), BallotKind>
     requires { length names.now ≡ roll.old.c }
-    ensures fault { OnOk result (record_fault names.now (length roll.old.ballots) (fields_of row.now) ≡ None) }
-    ensures rows { OnOk result (roll.new ≡ record roll.old { ballots = roll.old.ballots ++ ballots_of names.now (fields_of row.now) }) }
-    ensures err { IfErr result (λ kind. OrMemory kind (record_fault names.now (length roll.old.ballots) (fields_of row.now) ≡ Some kind)) }
+    ensures fault { OnOk result (record_fault names.now (length roll.old.ballots) (fields_of cells.now) ≡ None) }
+    ensures ballots { OnOk result (roll.new
+        ≡ record roll.old { ballots = roll.old.ballots ++ ballots_of names.now (fields_of cells.now) }) }
+    ensures err { IfErr result (λ kind. OrMemory kind
+        (record_fault names.now (length roll.old.ballots) (fields_of cells.now) ≡ Some kind)) }
 {
-    if is_passed(row) {
+    if is_passed(cells) {
         return Ok(());
     }
-    let Some(count) = read_count(cell_at(row, 0)) else {
+    let Some(count) = read_count(cell_at(cells, 0)) else {
         return Err(BallotKind::BadCount);
     };
-    let ballot = read_ballot(alloc, names, row)?;
+    let ballot = read_ballot(alloc, names, cells)?;
     match roll.push_times(ballot.as_slice(), count) {
         Ok(()) => Ok(()),
         Err(PushFault::TooMany) => Err(BallotKind::TooManyBallots),
@@ -42,11 +44,11 @@ pub(crate) fn add_record(
 
 /// Whether all cells of a record are empty.
 #[tactic(auto, using(crate::proofs::CellFacts::all_until, crate::proofs::CellFacts::all_stops_at))]
-fn is_passed(row: &ByteRecord) -> bool
-    ensures { result ≡ list_all is_empty (fields_of row.now) }
+fn is_passed(cells: &ByteRecord) -> bool
+    ensures { result ≡ list_all is_empty (fields_of cells.now) }
 {
-    for i in 0..row.len() {
-        if !cell_at(row, i).is_empty() {
+    for i in 0..cells.len() {
+        if !cell_at(cells, i).is_empty() {
             return false;
         }
     }
@@ -55,17 +57,16 @@ fn is_passed(row: &ByteRecord) -> bool
 
 /// The ballot that the cells after the count name.
 #[tactic(auto, using(crate::proofs::CellFacts::rest_more))]
-fn read_ballot(alloc: Global, names: &NameIndex, row: &ByteRecord) -> Result<Ranking, BallotKind>
-    ensures ballot { IfOk result (λ ballot. ballot ≡ ballot_of names.now (drop 1 (fields_of row.now))) }
+fn read_ballot(alloc: Global, names: &NameIndex, cells: &ByteRecord) -> Result<Ranking, BallotKind>
+    ensures ballot { IfOk result (λ ballot. ballot ≡ ballot_of names.now (drop 1 (fields_of cells.now))) }
     ensures below { IfOk result (λ ballot. All (λ x. x < length names.now) ballot) }
-    ensures known { OnOk result (list_any (is_unknown names.now) (drop 1 (fields_of row.now)) ≡ false) }
-    ensures err { IfErr result (λ kind. OrMemory kind ((kind ≡ BallotKind.UnknownName) × (list_any (is_unknown names.now) (drop 1 (fields_of row.now)) ≡ true))) }
+    ensures known { OnOk result (list_any (is_unknown names.now) (drop 1 (fields_of cells.now)) ≡ false) }
+    ensures err { IfErr result (λ kind. OrMemory kind
+        ((kind ≡ BallotKind.UnknownName) × (list_any (is_unknown names.now) (drop 1 (fields_of cells.now)) ≡ true))) }
 {
     let mut ballot = Ranking::new(alloc);
-    for i in 1..row.len() {
-        if let Err(kind) = add_cell(names, cell_at(row, i), &mut ballot) {
-            return Err(kind);
-        }
+    for i in 1..cells.len() {
+        add_cell(names, cell_at(cells, i), &mut ballot)?;
     }
     Ok(ballot)
 }
@@ -76,7 +77,8 @@ fn add_cell(names: &NameIndex, cell: &[u8], ballot: &mut Ranking) -> Result<(), 
     ensures ballot { OnOk result (ballot.new ≡ with_candidate ballot.old (candidate_of names.now cell.now)) }
     ensures below { OnOk result (All (λ x. x < length names.now) ballot.new) }
     ensures known { OnOk result (is_unknown names.now cell.now ≡ false) }
-    ensures err { IfErr result (λ kind. OrMemory kind ((kind ≡ BallotKind.UnknownName) × (is_unknown names.now cell.now ≡ true))) }
+    ensures err { IfErr result
+        (λ kind. OrMemory kind ((kind ≡ BallotKind.UnknownName) × (is_unknown names.now cell.now ≡ true))) }
 {
     if cell.is_empty() {
         return Ok(());

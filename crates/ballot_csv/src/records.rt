@@ -44,17 +44,18 @@ impl<'a> Records<'a> {
         }
     }
 
-    /// Reads the next record into `row`, and tells whether there was one. Any error of the crate is want of memory,
+    /// Reads the next record into `cells`, and tells whether there was one. Any error of the crate is want of memory,
     /// after which no record is left.
-    pub(crate) fn read(&mut self, row: &mut ByteRecord) -> Result<bool, Memory>
-        ensures found { IfOk result (λ found. MatchBool found (self.old ≡ fields_of row.new ∷ self.new) ((self.old ≡ []) × (self.new ≡ []))) }
+    pub(crate) fn read(&mut self, cells: &mut ByteRecord) -> Result<bool, Memory>
+        ensures found { IfOk result (λ found. MatchBool found
+            (self.old ≡ fields_of cells.new ∷ self.new) ((self.old ≡ []) × (self.new ≡ []))) }
         ensures failed { OnErr result (self.new ≡ []) }
     {
         if self.ended {
             return Ok(false);
         }
         self.ended = true;
-        let found = self.reader.read_byte_record(row).map_err(|_| AllocError)?;
+        let found = self.reader.read_byte_record(cells).map_err(|_| AllocError)?;
         self.ended = !found;
         Ok(found)
     }

@@ -1,6 +1,5 @@
 -- A certificate, read line by line up to the first fault.
 use Rattle.std.specs.Prelude.{ℕ, ◌==◌, if◌then◌else◌, List, [], length, Option, Some, None, Result, Ok, Err}
-use Rattle.text_lines.specs.Words.{fields_of}
 use Rattle.alteration_model.specs.declared.puts.Put.{Put}
 use Rattle.cert_text.specs.declared.fault.CertFault.{CertFault}
 use Rattle.cert_text.specs.declared.fault.CertKind.TheVariants.{Tail}
@@ -9,7 +8,7 @@ use Rattle.cert_text.specs.declared.cert.Claim.{Claim}
 use Rattle.cert_text.specs.declared.cert.Claim.TheVariants.{Margin, Fixed, Bounds}
 use Rattle.cert_text.specs.declared.cert.GoalText.{GoalText}
 use Rattle.cert_text.specs.Faults.{fault}
-use Rattle.cert_text.specs.Reading.{◌>>=◌, TextLeft, form_at, many_at}
+use Rattle.cert_text.specs.Reading.{◌>>=◌, TextLeft, fields_at, form_at, many_at}
 use Rattle.cert_text.specs.HeadLines.{first_line, rule_line, size_line, reported_line, claim_line, goal_line, put_line}
 use Rattle.cert_text.specs.TreeReading.{node_at}
 use Rattle.bound_tree.specs.declared.bound.TheConstants.{MOST_DEPTH}
@@ -17,8 +16,8 @@ use Rattle.bound_tree.specs.declared.bound.TheConstants.{MOST_DEPTH}
 -- a goal and so many replacements
 unfoldable pub turn_at : ℕ → ℕ → TextLeft → Result ((Option GoalText × List Put) × TextLeft) CertFault
 turn_at c k p = do
-  goal ← form_at (λ l. goal_line c (fields_of l)) p
-  puts ← many_at (form_at (λ l. put_line (fields_of l))) k goal.1
+  goal ← fields_at (goal_line c) p
+  puts ← many_at (fields_at put_line) k goal.1
   Ok ((Some goal.0, puts.0), puts.1)
 
 -- the goal and the replacements of a claim
@@ -31,14 +30,23 @@ body_at c (Bounds low up stop) p = turn_at c up p
 unfoldable pub cert_at : List ℕ → Result Cert CertFault
 cert_at text = do
   top ← form_at first_line (1, text)
-  rule ← form_at (λ l. rule_line (fields_of l)) top.1
-  size ← form_at (λ l. size_line (fields_of l)) rule.1
-  reported ← form_at (λ l. reported_line rule.0 size.0.0 (fields_of l)) size.1
-  claim ← form_at (λ l. claim_line (fields_of l)) reported.1
+  rule ← fields_at rule_line top.1
+  size ← fields_at size_line rule.1
+  reported ← fields_at (reported_line rule.0 size.0.0) size.1
+  claim ← fields_at claim_line reported.1
   body ← body_at size.0.0 claim.0 claim.1
   tree ← node_at MOST_DEPTH body.1.0 body.1
   if length tree.1.1 == 0
-      then Ok (record { rule = rule.0; c = size.0.0; ballots = size.0.1; reported = reported.0; claim = claim.0; goal = body.0.0; puts = body.0.1; tree = tree.0 })
+      then Ok (record {
+        rule = rule.0;
+        c = size.0.0;
+        ballots = size.0.1;
+        reported = reported.0;
+        claim = claim.0;
+        goal = body.0.0;
+        puts = body.0.1;
+        tree = tree.0;
+      })
       else Err (fault Tail tree.1.0)
 
 -- the first fault of a text

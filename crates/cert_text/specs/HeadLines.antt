@@ -53,7 +53,8 @@ winner_fields fields = made Winner (one_of 0 GREATEST_CANDIDATE fields)
 abbrev pub winner_or_none_fields : List (List ℕ) → Result Outcome LineFault
 winner_or_none_fields [] = Err BadLine
 winner_or_none_fields (field ∷ fields) =
-    if bytes_eq field (codes "none") then alone (Ok NoWinner) fields else made Winner (alone (number_within 0 GREATEST_CANDIDATE field) fields)
+    if bytes_eq field (codes "none") then alone (Ok NoWinner) fields
+    else made Winner (alone (number_within 0 GREATEST_CANDIDATE field) fields)
 
 abbrev pub seats_fields : ℕ → List (List ℕ) → Result Outcome LineFault
 seats_fields c fields = made Seats (count_of c 0 MOST_SEATS fields)
@@ -77,7 +78,8 @@ stop_fields (word ∷ fields) =
 abbrev pub bounds_fields : List (List ℕ) → Result Claim LineFault
 bounds_fields [] = Err BadLine
 bounds_fields (low ∷ []) = Err BadLine
-bounds_fields (low ∷ up ∷ fields) = made (λ x. Bounds x.0 x.1.0 x.1.1) (both (number_within 0 MOST_BALLOTS low) (both (number_within 0 MOST_BALLOTS up) (stop_fields fields)))
+bounds_fields (low ∷ up ∷ fields) = made (λ x. Bounds x.0 x.1.0 x.1.1)
+    (both (number_within 0 MOST_BALLOTS low) (both (number_within 0 MOST_BALLOTS up) (stop_fields fields)))
 
 abbrev pub claim_line : List (List ℕ) → Result Claim LineFault
 claim_line [] = Err BadLine
@@ -97,7 +99,8 @@ put_count (Bounds low up stop) = up
 abbrev pub goal_of : ℕ → List ℕ → List (List ℕ) → Result GoalText LineFault
 goal_of c kind fields =
     if bytes_eq kind (codes "order") then made Order (count_of c 0 GREATEST_CANDIDATE fields)
-    else if bytes_eq kind (codes "pair") then made (λ x. Pair x.0 x.1) (two_of (0, GREATEST_CANDIDATE) (0, GREATEST_CANDIDATE) fields)
+    else if bytes_eq kind (codes "pair")
+    then made (λ x. Pair x.0 x.1) (two_of (0, GREATEST_CANDIDATE) (0, GREATEST_CANDIDATE) fields)
     else if bytes_eq kind (codes "cover") then made Cover (one_of 0 GREATEST_CANDIDATE fields)
     else Err BadLine
 
@@ -114,7 +117,8 @@ put_of x = record { number = x.0; ballot = x.1 }
 
 abbrev pub put_fields : List (List ℕ) → Result Put LineFault
 put_fields [] = Err BadLine
-put_fields (number ∷ fields) = made put_of (both (number_within 0 MOST_BALLOTS number) (numbers_of 0 GREATEST_CANDIDATE fields))
+put_fields (number ∷ fields) =
+    made put_of (both (number_within 0 MOST_BALLOTS number) (numbers_of 0 GREATEST_CANDIDATE fields))
 
 abbrev pub put_line : List (List ℕ) → Result Put LineFault
 put_line fields = behind_word (codes "put") put_fields fields

@@ -1,6 +1,7 @@
 -- Reading line by line, up to the first fault.
 use Rattle.std.specs.Prelude.{◌≡◌, ◌≢◌, ◌⊎◌, ℕ, zero, suc, ◌+◌, ◌==◌, List, [], ◌∷◌, take, drop, Option, Some, None, Result, Ok, Err}
 use Rattle.std.specs.List.{position}
+use Rattle.text_lines.specs.Words.{fields_of}
 use Rattle.text_lines.specs.declared.fault.LineFault.{LineFault}
 use Rattle.text_lines.specs.declared.fault.LineFault.TheVariants as line
 use Rattle.cert_text.specs.declared.fault.CertFault.{CertFault}
@@ -34,6 +35,10 @@ TextLeft = ℕ × List ℕ
 abbrev pub text_left : Reader → TextLeft
 text_left reader = (reader.number, reader.rest.now)
 
+-- the same of a part after which so much is left
+abbrev pub ReadsOn : {X : Type 0} → Result X CertFault → TextLeft → Result (X × TextLeft) CertFault → Type 0
+ReadsOn result left read = ReadsPart (λ x. (x, left)) result read
+
 -- a line is ended by a line feed
 abbrev pub cut_at : TextLeft → Option ℕ → Result (List ℕ × TextLeft) CertFault
 cut_at p None = Err (fault kind.BadLine p.0)
@@ -55,8 +60,13 @@ form_at form p = do
   found ← at_line p.0 (form text.0)
   Ok (found, text.1)
 
+-- one line whose fields have a form
+abbrev pub fields_at : {A : Type 0} → (List (List ℕ) → Result A LineFault) → TextLeft → Result (A × TextLeft) CertFault
+fields_at form p = form_at (λ line. form (fields_of line)) p
+
 -- so many parts, one after another
-unfoldable pub many_at : {X : Type 0} → (TextLeft → Result (X × TextLeft) CertFault) → ℕ → TextLeft → Result (List X × TextLeft) CertFault
+unfoldable pub many_at : {X : Type 0} → (TextLeft → Result (X × TextLeft) CertFault) → ℕ → TextLeft
+    → Result (List X × TextLeft) CertFault
 many_at read zero p = Ok ([], p)
 many_at read (suc m) p = do
   one ← read p

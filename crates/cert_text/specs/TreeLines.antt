@@ -26,7 +26,8 @@ from_line fields = made (λ x. BranchBy (From x.0) x.1) (two_of (0, GREATEST_KEY
 
 abbrev pub arc_line : List (List ℕ) → Result Line LineFault
 arc_line [] = Err BadLine
-arc_line (u ∷ fields) = made (λ x. BranchBy (Arc x.0 x.1.0) x.1.1) (both (number_within 0 LAST_LEFT u) (two_of (1, LAST_ENTERED) (0, GREATEST_VALUE) fields))
+arc_line (u ∷ fields) = made (λ x. BranchBy (Arc x.0 x.1.0) x.1.1)
+    (both (number_within 0 LAST_LEFT u) (two_of (1, LAST_ENTERED) (0, GREATEST_VALUE) fields))
 
 abbrev pub branch_line : List (List ℕ) → Result Line LineFault
 branch_line [] = Err BadLine
@@ -36,7 +37,9 @@ branch_line (word ∷ fields) =
     else Err BadLine
 
 abbrev pub cut_line : List (List ℕ) → Result Line LineFault
-cut_line fields = if nat_lt MOST_MULTIPLIERS (length fields) then Err BadLine else made CutWith (numbers_of 0 GREATEST_MULTIPLIER fields)
+cut_line fields =
+    if nat_lt MOST_MULTIPLIERS (length fields) then Err BadLine
+    else made CutWith (numbers_of 0 GREATEST_MULTIPLIER fields)
 
 abbrev pub tree_line : List (List ℕ) → Result Line LineFault
 tree_line [] = Err BadLine

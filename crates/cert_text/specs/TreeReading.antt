@@ -18,7 +18,8 @@ tree_line_at first p = if length p.1 == 0 then Err (fault TreeEnds p.0) else do
   if nat_le (first + MOST_NODES) p.0 then Err (fault TooManyNodes p.0) else Ok (found, text.1)
 
 -- a node by its line, with the trees below it read by `read`
-unfoldable pub grown_at : (TextLeft → Result (Plain × TextLeft) CertFault) → Line × TextLeft → Result (Plain × TextLeft) CertFault
+unfoldable pub grown_at : (TextLeft → Result (Plain × TextLeft) CertFault) → Line × TextLeft
+    → Result (Plain × TextLeft) CertFault
 grown_at read (SplitInto m, p) = do
   kids ← many_at read m p
   Ok (Split (kids_of kids.0), kids.1)

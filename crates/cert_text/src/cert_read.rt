@@ -1,7 +1,6 @@
 // Reading a certificate.
 ghost use Rattle.std.specs.Prelude.{◌≡◌, ◌<◌, ◌≤◌, ◌+◌, ◌^◌, OnOk, IfOk, IfErr, Ok};
-ghost use Rattle.text_lines.specs.Words.{fields_of};
-ghost use Rattle.cert_text.specs.Reading.{ReadsPart, ReadsCert, form_at, many_at, text_left};
+ghost use Rattle.cert_text.specs.Reading.{ReadsPart, ReadsOn, ReadsCert, fields_at, many_at, text_left};
 ghost use Rattle.cert_text.specs.HeadLines.{reported_line, goal_line, put_line, put_count};
 ghost use Rattle.cert_text.specs.CertReading.{turn_at, body_at, cert_at};
 ghost use Rattle.cert_text.specs.CertText.{CertText};
@@ -77,7 +76,7 @@ fn next_reported(
     reader: &mut Reader<'_>,
 ) -> Result<Outcome, CertFault>
     requires { reader.old.number + 1 < 2 ^ 32 }
-    ensures reported { ReadsPart (λ x. (x, text_left reader.new)) result (form_at (λ l. reported_line rule c (fields_of l)) (text_left reader.old)) }
+    ensures reported { ReadsOn result (text_left reader.new) (fields_at (reported_line rule c) (text_left reader.old)) }
     ensures number { OnOk result (reader.new.number ≡ reader.old.number + 1) }
 {
     let number = reader.number;
@@ -95,7 +94,7 @@ fn read_body(
 ) -> Result<(Option<GoalText>, PutList), CertFault>
     requires number { reader.old.number ≤ 6 }
     requires few { put_count claim ≤ MOST_BALLOTS }
-    ensures body { ReadsPart (λ x. (x, text_left reader.new)) result (body_at c claim (text_left reader.old)) }
+    ensures body { ReadsOn result (text_left reader.new) (body_at c claim (text_left reader.old)) }
     ensures number { OnOk result (reader.new.number < 2 ^ 21) }
 {
     match claim {
@@ -115,7 +114,7 @@ fn read_turn(
 ) -> Result<(Option<GoalText>, PutList), CertFault>
     requires number { reader.old.number ≤ 6 }
     requires few { count ≤ MOST_BALLOTS }
-    ensures turn { ReadsPart (λ x. (x, text_left reader.new)) result (turn_at c count (text_left reader.old)) }
+    ensures turn { ReadsOn result (text_left reader.new) (turn_at c count (text_left reader.old)) }
     ensures number { OnOk result (reader.new.number < 2 ^ 21) }
 {
     let goal = next_goal(alloc, c, reader)?;
@@ -126,7 +125,7 @@ fn read_turn(
 /// The next line, which tells the goal.
 fn next_goal(alloc: Global, c: u8, reader: &mut Reader<'_>) -> Result<GoalText, CertFault>
     requires { reader.old.number + 1 < 2 ^ 32 }
-    ensures goal { ReadsPart (λ x. (x, text_left reader.new)) result (form_at (λ l. goal_line c (fields_of l)) (text_left reader.old)) }
+    ensures goal { ReadsOn result (text_left reader.new) (fields_at (goal_line c) (text_left reader.old)) }
     ensures number { OnOk result (reader.new.number ≡ reader.old.number + 1) }
 {
     let number = reader.number;
@@ -137,7 +136,7 @@ fn next_goal(alloc: Global, c: u8, reader: &mut Reader<'_>) -> Result<GoalText, 
 /// So many replacements.
 fn read_puts(alloc: Global, count: u32, reader: &mut Reader<'_>) -> Result<PutList, CertFault>
     requires { reader.old.number + count < 2 ^ 32 }
-    ensures puts { ReadsPart (λ xs. (xs, text_left reader.new)) result (many_at (form_at (λ l. put_line (fields_of l))) count (text_left reader.old)) }
+    ensures puts { ReadsOn result (text_left reader.new) (many_at (fields_at put_line) count (text_left reader.old)) }
     ensures number { OnOk result (reader.new.number ≡ reader.old.number + count) }
 {
     let mut puts = PutList::new(alloc);
@@ -151,7 +150,7 @@ fn read_puts(alloc: Global, count: u32, reader: &mut Reader<'_>) -> Result<PutLi
 /// The next line, which tells a replacement.
 fn next_put(alloc: Global, reader: &mut Reader<'_>) -> Result<Put, CertFault>
     requires { reader.old.number + 1 < 2 ^ 32 }
-    ensures put { ReadsPart (λ x. (x, text_left reader.new)) result (form_at (λ l. put_line (fields_of l)) (text_left reader.old)) }
+    ensures put { ReadsOn result (text_left reader.new) (fields_at put_line (text_left reader.old)) }
     ensures number { OnOk result (reader.new.number ≡ reader.old.number + 1) }
 {
     let number = reader.number;

@@ -1,12 +1,12 @@
 //! Certificates as text, in both directions.
 //!
-//! A certificate says what is claimed of a contest, the goal and the replacements that turn its outcome, and the tree of bounds
-//! by which fewer don't. The grammar is a relation between bytes and certificates (`specs/CertText.antt`). The crate promises
-//! that `read_cert` answers the certificate exactly where the text is in the grammar, and otherwise the first fault with its
-//! line; that `print_cert` writes the text of a certificate within the limits; that one text has one certificate and one
-//! certificate one text. The calls of `written` add single lines, for other texts that have the same ones. The crate stands on the
-//! rules and outcomes of `ballot_form`, the replacements of `alteration_model`, the trees of `bound_tree`, the size of a wide number of
-//! `exact_num` and the lines of `text_lines`.
+//! A certificate says what is claimed of a contest, the goal and the replacements that turn its outcome, and the tree of
+//! bounds by which fewer don't. The grammar is a relation between bytes and certificates (`specs/CertText.antt`). The crate
+//! promises that `read_cert` answers the certificate exactly where the text is in the grammar, and otherwise the first fault
+//! with its line; that `print_cert` writes the text of a certificate within the limits; that one text has one certificate
+//! and one certificate one text. The calls of `written` add single lines, for other texts that have the same ones. The crate
+//! stands on the rules and outcomes of `ballot_form`, the replacements of `alteration_model`, the trees of `bound_tree`, the
+//! size of a wide number of `exact_num` and the lines of `text_lines`.
 #![tactic(auto)]
 
 mod cert;

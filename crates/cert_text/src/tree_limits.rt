@@ -12,7 +12,8 @@ use row_program::{Feature, MOST_KIDS};
 /// Whether a tree is within its limits.
 #[tactic(auto, using(bound_tree::proofs::Laws::size_some))]
 pub(crate) fn bound_fits(tree: &BoundTree) -> bool
-    ensures { IsTrue result ↔ (All LineFits (lines_of tree.now) × (height tree.now ≤ MOST_DEPTH) × (size tree.now ≤ MOST_NODES)) }
+    ensures { IsTrue result
+        ↔ (All LineFits (lines_of tree.now) × (height tree.now ≤ MOST_DEPTH) × (size tree.now ≤ MOST_NODES)) }
 {
     let small = tree.depth() <= MOST_DEPTH && tree.nodes() <= MOST_NODES;
     small && tree_fits(tree.at(0))
@@ -36,7 +37,8 @@ fn tree_fits(tree: &Tree) -> bool
 /// Whether each line of both trees is.
 #[cycle(trees)]
 fn halves_fit(low: &Tree, high: &Tree) -> bool
-    ensures { IsTrue result ↔ (All LineFits (lines_of (plain_of low.now)) × All LineFits (lines_of (plain_of high.now))) }
+    ensures { IsTrue result
+        ↔ (All LineFits (lines_of (plain_of low.now)) × All LineFits (lines_of (plain_of high.now))) }
 {
     tree_fits(low) && tree_fits(high)
 }

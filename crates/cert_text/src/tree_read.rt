@@ -44,7 +44,8 @@ pub(crate) fn read_node(
     requires left { left < 2 ^ 16 }
     requires first { first < 2 ^ 21 }
     requires number { reader.old.number ≤ first + MOST_NODES }
-    ensures node { ReadsPart (λ t. (plain_of t, text_left reader.new)) result (node_at left first (text_left reader.old)) }
+    ensures node { ReadsPart (λ t. (plain_of t, text_left reader.new)) result
+        (node_at left first (text_left reader.old)) }
     ensures number { OnOk result (reader.new.number ≤ first + MOST_NODES) }
 {
     let number = reader.number;
@@ -83,7 +84,8 @@ fn read_kids(
     requires left { left < 2 ^ 16 }
     requires first { first < 2 ^ 21 }
     requires number { reader.old.number ≤ first + MOST_NODES }
-    ensures nodes { ReadsPart (λ kids. (map plain_of kids, text_left reader.new)) result (many_at (node_at left first) count (text_left reader.old)) }
+    ensures nodes { ReadsPart (λ kids. (map plain_of kids, text_left reader.new)) result
+        (many_at (node_at left first) count (text_left reader.old)) }
     ensures number { OnOk result (reader.new.number ≤ first + MOST_NODES) }
 {
     let mut kids = List::new(alloc);

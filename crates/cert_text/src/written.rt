@@ -54,8 +54,10 @@ pub fn push_claim(out: &mut Vec<u8>, claim: Claim) -> Result<(), Memory>
 
 /// Adds the line of two bounds.
 fn push_bounds(out: &mut Vec<u8>, low: u32, up: u32, stop: Stop) -> Result<(), Memory>
-    ensures line { OnOk result (out.new.items ≡ out.old.items ++ line_text (codes "bounds" ∷ decimal low ∷ decimal up ∷ stop_words stop)) }
-    ensures part { OnErr result (AddedFirst out.old.items out.new.items (line_text (codes "bounds" ∷ decimal low ∷ decimal up ∷ stop_words stop))) }
+    ensures line { OnOk result (out.new.items
+        ≡ out.old.items ++ line_text (codes "bounds" ∷ decimal low ∷ decimal up ∷ stop_words stop)) }
+    ensures part { OnErr result (AddedFirst out.old.items out.new.items
+        (line_text (codes "bounds" ∷ decimal low ∷ decimal up ∷ stop_words stop))) }
 {
     out.extend_from_slice(b"bounds")?;
     push_number(out, low)?;

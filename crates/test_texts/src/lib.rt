@@ -1,6 +1,12 @@
-//! Tests of the crates of texts: the ballot file, lines, certificates and tallies. Worked texts, tables of what is read and of what is
-//! wrong with it, and each public call once on its happy path. It has no code of its own.
+//! Tests of the crates of texts: the ballot file, lines, certificates and tallies. Worked texts, tables of what is read and of
+//! what is wrong with it, and each public call once on its happy path. It has no code of its own.
 #![tactic(auto)]
 
+#[cfg(test)]
+mod ballot_csv;
+#[cfg(test)]
+mod cert_text;
+#[cfg(test)]
+mod fault_texts;
 #[cfg(test)]
 mod text_lines;

@@ -35,7 +35,8 @@ behind [] = []
 behind (field ∷ fields) = fields
 
 -- what stands behind a word
-abbrev pub behind_word : {A : Type 0} → List ℕ → (List (List ℕ) → Result A LineFault) → List (List ℕ) → Result A LineFault
+abbrev pub behind_word : {A : Type 0} → List ℕ → (List (List ℕ) → Result A LineFault) → List (List ℕ)
+    → Result A LineFault
 behind_word word form fields = if begins word fields then form (behind fields) else Err BadLine
 
 -- one number, or two each within its limits, and then no field
@@ -44,8 +45,8 @@ one_of low high [] = Err BadLine
 one_of low high (field ∷ fields) = alone (number_within low high field) fields
 
 abbrev pub two_of : ℕ × ℕ → ℕ × ℕ → List (List ℕ) → Result (ℕ × ℕ) LineFault
-two_of limits limits' [] = Err BadLine
-two_of limits limits' (field ∷ fields) = both (number_within limits.0 limits.1 field) (one_of limits'.0 limits'.1 fields)
+two_of limits others [] = Err BadLine
+two_of limits others (field ∷ fields) = both (number_within limits.0 limits.1 field) (one_of others.0 others.1 fields)
 
 -- any count of numbers
 abbrev pub joined : Result (List ℕ) LineFault → Result (List ℕ) LineFault → Result (List ℕ) LineFault

@@ -105,8 +105,8 @@ pub fn any_numbers<N: NumberList>(
     found
 }
 
-/// The numbers that are left, exactly so many and each from `low` to `high`, in the list `empty`. Where so many fields aren't left,
-/// none is read.
+/// The numbers that are left, exactly so many and each from `low` to `high`, in the list `empty`. Where so many fields
+/// aren't left, none is read.
 pub fn so_many_numbers<N: NumberList>(
     empty: N,
     count: usize,

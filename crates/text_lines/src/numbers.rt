@@ -61,7 +61,8 @@ fn has_leading_zero(text: &[u8]) -> bool
 #[tactic(auto, using(crate::proofs::Digits::digit_here, crate::proofs::Digits::value_more))]
 fn value_up_to(high: u64, digits: &[u8]) -> Option<u64>
     requires { list_all is_ascii_digit digits.now ≡ true }
-    ensures { MatchOption result (high < digits_value 10 digits.now) (λ n. (n ≡ digits_value 10 digits.now) × (n ≤ high)) }
+    ensures { MatchOption result (high < digits_value 10 digits.now)
+        (λ n. (n ≡ digits_value 10 digits.now) × (n ≤ high)) }
 {
     let mut n = 0u64;
     for byte in digits {

@@ -74,8 +74,10 @@ impl<'a> Fields<'a> {
     /// The next field, and none exactly after the last. The one after it starts behind the space that ends it. It takes no
     /// memory.
     pub fn next(&mut self) -> Option<Field<'a>>
-        ensures next { MatchOption result ((ahead self.old ≡ []) × (ahead self.new ≡ [])) (λ f. ahead self.old ≡ f.text.now ∷ ahead self.new) }
-        ensures span { IfSome result (λ f. f.text.now ≡ slice_range self.old.line f.start (f.start + length f.text.now)) }
+        ensures next { MatchOption result ((ahead self.old ≡ []) × (ahead self.new ≡ []))
+            (λ f. ahead self.old ≡ f.text.now ∷ ahead self.new) }
+        ensures span { IfSome result
+            (λ f. f.text.now ≡ slice_range self.old.line f.start (f.start + length f.text.now)) }
         ensures start { IfSome result (λ f. f.start ≡ self.old.start) }
         ensures line { self.new.line ≡ self.old.line }
         ensures rises { IfSome result (λ f. self.new.done ≡ false → self.new.start ≡ f.start + length f.text.now + 1) }

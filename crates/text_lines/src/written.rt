@@ -19,8 +19,10 @@ pub fn push_one(out: &mut Vec<u8>, word: &[u8], number: u64) -> Result<(), Memor
 
 /// Adds a line of a word and two numbers.
 pub fn push_two(out: &mut Vec<u8>, word: &[u8], number: u64, other: u64) -> Result<(), Memory>
-    ensures line { OnOk result (out.new.items ≡ out.old.items ++ line_text (word.now ∷ decimal number ∷ decimal other ∷ [])) }
-    ensures part { OnErr result (AddedFirst out.old.items out.new.items (line_text (word.now ∷ decimal number ∷ decimal other ∷ []))) }
+    ensures line { OnOk result (out.new.items
+        ≡ out.old.items ++ line_text (word.now ∷ decimal number ∷ decimal other ∷ [])) }
+    ensures part { OnErr result (AddedFirst out.old.items out.new.items
+        (line_text (word.now ∷ decimal number ∷ decimal other ∷ []))) }
 {
     push_list(out, word, [number, other].as_slice())
 }
@@ -28,7 +30,8 @@ pub fn push_two(out: &mut Vec<u8>, word: &[u8], number: u64, other: u64) -> Resu
 /// Adds a line of a word and numbers.
 pub fn push_list<I: Integer>(out: &mut Vec<u8>, word: &[u8], numbers: &[I]) -> Result<(), Memory>
     ensures line { OnOk result (out.new.items ≡ out.old.items ++ line_text (word.now ∷ map I.text numbers.now)) }
-    ensures part { OnErr result (AddedFirst out.old.items out.new.items (line_text (word.now ∷ map I.text numbers.now))) }
+    ensures part { OnErr result (AddedFirst out.old.items out.new.items
+        (line_text (word.now ∷ map I.text numbers.now))) }
 {
     out.extend_from_slice(word)?;
     push_numbers(out, numbers)?;

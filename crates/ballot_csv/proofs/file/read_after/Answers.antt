@@ -9,8 +9,8 @@ invariant_of-result-clause-distinct c = distinct_names (fields_of c.args.head.no
 pub invariant_of-result-clause-admitted : goal.invariant_of-result-clause-admitted
 invariant_of-result-clause-admitted c = admitted_names (fields_of c.args.head.now) c.in-Ok.names.0 c.in-Ok.ensures.good c.in-Ok.ensures.names
 
-pub returns-in-Ok-read_rows : goal.returns-in-Ok-read_rows
-returns-in-Ok-read_rows c =
+pub returns : goal.returns
+returns c =
     let e = c.in-Ok.ensures in
-    let r = c.in-Ok-read_rows.ensures in
-    all_good (fields_of c.args.head.now) c.args.records c.in-Ok.names.0 c.in-Ok.names.1 c.new-roll.result c.read_rows.new.roll c.len.result e.good e.names e.index c.len.ensures c.new-roll.ensures r.good r.ballots r.names
+    let r = c.in_ok-add_records.ensures in
+    all_good (fields_of c.args.head.now) c.args.records c.in-Ok.names.0 c.in-Ok.names.1 c.new-roll.result c.add_records.new.roll c.len.result e.good e.names e.index c.len.ensures c.new-roll.ensures r.good r.ballots r.names

@@ -1,6 +1,6 @@
 use Rattle.std.proofs.Common.{◌≡◌, ◌+◌, [], drop, length, take}
 use Rattle.csv.specs.Records.{fields_of}
-use Rattle.ballot_csv.specs.HeadRow.{names_fault}
+use Rattle.ballot_csv.specs.HeadRecord.{names_fault}
 use Rattle.ballot_csv.proofs.head.read_names.Given as goal
 
 abbrev pub invariant-loop-i : goal.invariant-loop-i

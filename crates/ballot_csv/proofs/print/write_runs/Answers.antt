@@ -4,7 +4,7 @@ use Rattle.ballot_csv.proofs.print.write_runs.Goals as goal
 
 pub loop-start-preserved : goal.loop-start-preserved
 loop-start-preserved c = record {
-  rest = runs_more c.args.contest.now.names c.args.contest.now.roll.ballots _ c.loop-start.start c.run_len-count.result _ _ _ (omega arith) c.run_len-count.ensures.run c.in_ok-run_row.ensures c.loop-start.invariant.rest c.in_ok-write.ensures;
+  rest = runs_more c.args.contest.now.names c.args.contest.now.roll.ballots _ c.loop-start.start c.run_len-count.result _ _ _ (omega arith) c.run_len-count.ensures.run c.in_ok-run_record.ensures c.loop-start.invariant.rest c.in_ok-write.ensures;
   within = c.run_len-count.ensures.within;
 }
 

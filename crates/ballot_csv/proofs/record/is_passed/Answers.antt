@@ -5,4 +5,4 @@ use Rattle.ballot_csv.proofs.CellFacts.{all_until}
 use Rattle.ballot_csv.proofs.record.is_passed.Goals as goal
 
 pub loop-i-preserved : goal.loop-i-preserved
-loop-i-preserved c = rw (all_until is_empty (fields_of c.args.row.now) c.loop-i.i c.cell_at.result.now c.cell_at.ensures, c.loop-i.invariant) (search rules)
+loop-i-preserved c = rw (all_until is_empty (fields_of c.args.cells.now) c.loop-i.i c.cell_at.result.now c.cell_at.ensures, c.loop-i.invariant) (search rules)

@@ -5,4 +5,4 @@ use Rattle.ballot_csv.specs.OneRecord.{is_empty}
 use Rattle.ballot_csv.proofs.record.is_passed.Given as goal
 
 abbrev pub invariant-loop-i : goal.invariant-loop-i
-invariant-loop-i l = list_all is_empty (take l.i (fields_of l.row)) ≡ true
+invariant-loop-i l = list_all is_empty (take l.i (fields_of l.cells)) ≡ true

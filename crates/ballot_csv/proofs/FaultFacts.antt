@@ -1,7 +1,7 @@
 -- Facts of each kind but want of memory.
 use Rattle.ballot_csv.specs.declared.fault.BallotKind.{BallotKind}
 use Rattle.ballot_csv.specs.declared.fault.BallotKind.TheVariants.{Empty, BadHead, NoCandidates, TooManyCandidates, BadName, NameTwice, BadCount, UnknownName, TooManyBallots, Memory}
-use Rattle.ballot_csv.specs.Gives.{OrMemory}
+use Rattle.ballot_csv.specs.Faults.{OrMemory}
 
 pub or_memory : (kind : BallotKind) {P Q : Type 0} → (P → Q) → OrMemory kind P → OrMemory kind Q
 or_memory Empty f h = f h

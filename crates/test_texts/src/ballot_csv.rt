@@ -1,5 +1,5 @@
 // Files with each fault, files that are accepted, and their plain form.
-use super::*;
+use ballot_csv::{print_ballots, read_ballots};
 use std::alloc::Global;
 use std::test::Fail;
 
@@ -100,11 +100,6 @@ fn accepted_files_are_shown_in_the_plain_form(rt: HostRuntime) -> Result<(), Fai
         let form = shown(rt.alloc(), file)?;
         assert_eq!(rt; form.as_slice(), want);
     }
-    Ok(())
-}
-
-#[test]
-fn a_contest_has_the_names_and_the_ballots(rt: HostRuntime) -> Result<(), Fail> {
     let contest = read_ballots(rt.alloc(), b"ballots,A,B,C\n5,A\n4,B,C\n3,C,A\n")?;
     assert_eq!(rt; contest.names.len(), 3);
     assert_eq!(rt; contest.roll.candidates(), 3);

@@ -2,6 +2,7 @@
 use Rattle.std.specs.Prelude.{ℕ, List, [], ◌∷◌, ◌++◌, ◌==◌, not, length, drop, Option, Some, None, if◌then◌else◌, nat_lt, codes}
 use Rattle.std.specs.List.{list_any}
 use Rattle.std.specs.Str.{bytes_eq}
+use Rattle.ballot_form.specs.declared.limits.TheConstants.{MOST_CANDIDATES}
 use Rattle.ballot_form.specs.Names.{is_name}
 use Rattle.ballot_csv.specs.OneRecord.{is_empty}
 use Rattle.ballot_csv.specs.declared.fault.BallotKind.{BallotKind}
@@ -19,7 +20,8 @@ without_empty_end (cell ∷ cells) = before_filled cell (without_empty_end cells
 
 -- what is wrong with a name after others
 abbrev pub name_fault : List (List ℕ) → List ℕ → Option BallotKind
-name_fault before cell = if is_name cell then (if list_any (bytes_eq cell) before then Some NameTwice else None) else Some BadName
+name_fault before cell =
+    if is_name cell then (if list_any (bytes_eq cell) before then Some NameTwice else None) else Some BadName
 
 abbrev pub or_later : Option BallotKind → Option BallotKind → Option BallotKind
 or_later (Some kind) later = Some kind
@@ -35,7 +37,7 @@ filled_fault [] = Some BadHead
 filled_fault (first ∷ names) =
     if not (bytes_eq first (codes "ballots")) then Some BadHead
     else if length names == 0 then Some NoCandidates
-    else if nat_lt 12 (length names) then Some TooManyCandidates
+    else if nat_lt MOST_CANDIDATES (length names) then Some TooManyCandidates
     else names_fault [] names
 
 -- what is wrong with a head
