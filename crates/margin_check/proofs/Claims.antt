@@ -2,7 +2,6 @@
 use Rattle.std.proofs.Common.{ℕ, List, Option, Some, Bool, IsTrue, ◌≡◌, ◌↔◌, refl, sym, subst}
 use Rattle.goal_rows.specs.Elections.{Election}
 use Rattle.goal_rows.specs.Goals.{Holds, IsComplete}
-use Rattle.goal_rows.specs.declared.goals.Goal.{Goal}
 use Rattle.goal_rows.specs.declared.goals.Goal.TheVariants as goals
 use Rattle.cert_text.specs.declared.cert.GoalText.{GoalText}
 use Rattle.cert_text.specs.declared.cert.GoalText.TheVariants.{Pair}

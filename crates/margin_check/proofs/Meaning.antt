@@ -1,5 +1,5 @@
 -- A valid certificate says what is so.
-use Rattle.std.proofs.Common.{ℕ, List, Option, Some, None, ◌≡◌, ◌<◌, ◌+◌, ◌∙◌, length, refl, subst, arith}
+use Rattle.std.proofs.Common.{ℕ, List, Option, Some, None, ◌≡◌, ◌+◌, ◌∙◌, length, refl, subst, arith}
 use Rattle.std.proofs.lemmas.List.{length-map}
 use Rattle.ballot_form.specs.Alterations.{IsAlteration, after}
 use Rattle.ballot_form.specs.Ballots.{IsPoll}

@@ -1,6 +1,6 @@
 -- Nodes of a tree of the program: their shape, and the visits below them.
-use Rattle.std.proofs.Common.{ℕ, zero, suc, List, [], ◌∷◌, ◌++◌, Some, None, All, Bool, true, false, IsTrue, ◌≡◌, ◌<◌, ◌≤◌, ◌+◌, ◌*◌, ◌∙◌, ◌↔◌, length, map, take, drop, get_or, length-append, refl, ap, sym, subst, inr, arith}
-use Rattle.std.specs.Prelude.{◌==◌, Contains, IfOk, Result, Ok, Err, option_map, sum_by}
+use Rattle.std.proofs.Common.{ℕ, zero, suc, List, [], ◌∷◌, ◌++◌, Some, None, All, Bool, true, IsTrue, ◌≡◌, ◌<◌, ◌≤◌, ◌+◌, ◌*◌, ◌∙◌, ◌↔◌, length, map, take, drop, get_or, length-append, refl, ap, sym, subst, inr, arith}
+use Rattle.std.specs.Prelude.{◌==◌, IfOk, Result, Ok, Err, option_map, sum_by}
 use Rattle.std.proofs.lemmas.Bool.Decides.{nat_tests}
 use Rattle.std.proofs.lemmas.List.{drop_all, drop_more}
 use Rattle.std.proofs.lemmas.List.Sums.{sum_by_more_le}

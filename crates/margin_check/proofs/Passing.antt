@@ -1,12 +1,9 @@
 -- The cut test of a node.
-use Rattle.std.proofs.Common.{ℕ, zero, suc, List, [], ◌∷◌, All, Bool, true, false, IsTrue, ◌≡◌, ◌<◌, ◌≤◌, ◌+◌, ◌∙◌, ◌↔◌, length, map, min, cond, ap, subst, sym, arith}
-use Rattle.std.specs.Prelude.{nat_eq, ℤ}
+use Rattle.std.proofs.Common.{ℕ, List, [], ◌∷◌, Bool, true, false, IsTrue, ◌≡◌, ◌≤◌, ◌+◌, ◌∙◌, ◌↔◌, length, map, cond, ap, subst, sym, arith}
+use Rattle.std.specs.Prelude.{nat_eq}
 use Rattle.std.specs.Str.{bytes_eq}
 use Rattle.std.proofs.lemmas.List.{length-map}
-use Rattle.mov_base.specs.Sums.{sum_z}
-use Rattle.exact_num.specs.declared.limits.TheConstants.{WIDE}
 use Rattle.row_program.specs.declared.Feature.{Feature}
-use Rattle.row_program.specs.declared.Limit.{Limit}
 use Rattle.bound_tree.specs.declared.tree.Tree.{Tree}
 use Rattle.bound_tree.specs.declared.tree.Tree.TheVariants as program
 use Rattle.bound_tree.specs.Plain.{Cut, plain_of}
@@ -14,16 +11,13 @@ use Rattle.bound_tree.proofs.Shapes.{plain_Split, plain_Branch, plain_Cut}
 use Rattle.signature_class.specs.Classes.{add_all, add_class, classes_of}
 use Rattle.signature_class.proofs.Counts.{classes_by_kinds, regrouped}
 use Rattle.goal_rows.specs.Elections.{Election, Node}
-use Rattle.goal_rows.specs.Goals.{rows_of}
-use Rattle.goal_rows.specs.Nodes.{AreLimits, IsFeatureOf, node_of}
-use Rattle.goal_rows.specs.Races.{IsGroundIn, IsGroundOf, IsRace, election_of, key_of, keys_of}
+use Rattle.goal_rows.specs.Races.{IsGroundOf, IsRace, election_of, key_of, keys_of}
 use Rattle.goal_rows.specs.declared.goals.Goal.{Goal}
 use Rattle.goal_rows.specs.declared.goals.Goal.TheVariants.{Root, Pair}
 use Rattle.goal_rows.specs.declared.parts.Ground.{Ground}
 use Rattle.goal_rows.specs.declared.parts.Race.{Race}
-use Rattle.dual_bound.specs.CutTest.{AreMultipliers, Cuts, CutsKept, weighed_of}
-use Rattle.margin_check.specs.Proving.{Passes, number_count}
-use Rattle.margin_check.specs.Visits.{visit_of}
+use Rattle.dual_bound.specs.CutTest.{Cuts}
+use Rattle.margin_check.specs.Proving.{Passes}
 
 -- ---- there are at most as many classes as kinds
 

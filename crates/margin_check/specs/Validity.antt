@@ -1,5 +1,5 @@
 -- When a certificate is valid for a contest.
-use Rattle.std.specs.Prelude.{◌≡◌, ℕ, ◌+◌, ◌<◌, List, [], All, length, Option, Some, None}
+use Rattle.std.specs.Prelude.{◌≡◌, ℕ, ◌+◌, ◌<◌, List, All, length, Option, Some, None}
 use Rattle.ballot_form.specs.Alterations.{IsAlteration, after}
 use Rattle.ballot_form.specs.Ballots.{Poll}
 use Rattle.alteration_model.specs.Faults.{pairs_of}
@@ -13,7 +13,7 @@ use Rattle.cert_text.specs.declared.cert.Cert.{Cert}
 use Rattle.cert_text.specs.declared.cert.Claim.{Claim}
 use Rattle.cert_text.specs.declared.cert.Claim.TheVariants.{Margin, Fixed, Bounds}
 use Rattle.cert_text.specs.declared.cert.GoalText.{GoalText}
-use Rattle.cert_text.specs.declared.cert.GoalText.TheVariants.{Order, Pair, Cover}
+use Rattle.cert_text.specs.declared.cert.GoalText.TheVariants.{Pair}
 use Rattle.margin_check.specs.Proving.{IsShaped, Passes}
 use Rattle.margin_check.specs.Visits.{Visit, visits}
 

@@ -1,8 +1,8 @@
-use Rattle.std.proofs.Common.{rules, [], All, ◌≡◌, ◌<◌, ◌+◌, ◌∙◌, ap, arith, get_or, length, subst, sym}
+use Rattle.std.proofs.Common.{rules, [], All, ◌≡◌, ◌<◌, ◌+◌, ◌∙◌, ap, arith, length, subst, sym}
 use Rattle.bound_tree.specs.Plain.{plain_of}
 use Rattle.bound_tree.proofs.Shapes.{size_Split}
 use Rattle.goal_rows.specs.Goals.{IsReached}
-use Rattle.goal_rows.specs.Nodes.{node_of, without_limits}
+use Rattle.goal_rows.specs.Nodes.{node_of}
 use Rattle.goal_rows.specs.Races.{election_of}
 use Rattle.margin_check.specs.Visits.{visits}
 use Rattle.margin_check.specs.Walks.{EndsAt, Gives, IsKnown}

@@ -1,5 +1,4 @@
-use Rattle.std.proofs.Common.{◌≡◌, ◌∙◌, [], length, refl, sym}
-use Rattle.std.specs.Prelude.{◌==◌}
+use Rattle.std.proofs.Common.{◌∙◌, sym}
 use Rattle.goal_rows.specs.Nodes.{node_of}
 use Rattle.goal_rows.specs.Races.{election_of}
 use Rattle.margin_check.proofs.Nodes.{none_long, shaped_Branch, split_counted}
