@@ -4,7 +4,8 @@ use Rattle.std.specs.Prelude.{Ok, Err}
 use Rattle.mov_edge.specs.Outside.{Lacks, Rose, Tells}
 use Rattle.ballot_csv.specs.BallotFile.{NamedPoll, read_of}
 use Rattle.ballot_csv.specs.declared.fault.BallotFault.{BallotFault}
-use Rattle.mov_run.specs.Allowed.{Answer, HasNoCert, HasNoContest, IsContestFile, IsUnread, ballot_limit}
+use Rattle.ballot_csv.specs.declared.limits.TheConstants.{LONGEST_FILE}
+use Rattle.mov_run.specs.Allowed.{Answer, HasNoCert, HasNoContest, IsContestFile, IsUnread}
 use Rattle.mov_run.specs.Checked.{LacksCert}
 use Rattle.mov_run.specs.Ends.{EndsWith, IsToldContest}
 use Rattle.mov_run.specs.Promised.{RefusesBallots}
@@ -96,7 +97,7 @@ ends_with old new s t wanted ends is stopped same there =
     inl (is ∙ ap status_of same ∙ there, subst (λ v. SaysLine old new (line_of v)) same stopped.line)
 
 faulty_file : (old new : Outside) (words : List (List ℕ)) (s : Status) (file bytes : List ℕ) (fault : BallotFault) → AtFile old new words s file → Tells old.told file bytes → (Rose old.faults new.faults → ⊥)
-    → length bytes ≤ ballot_limit → read_of bytes ≡ Err fault → EndsWith old new s Ballots (line_of (stop.Ballots fault))
+    → length bytes ≤ LONGEST_FILE → read_of bytes ≡ Err fault → EndsWith old new s Ballots (line_of (stop.Ballots fault))
 faulty_file old new words s file bytes fault (inl memory) tells quiet short read = inr memory
 faulty_file old new words s file bytes fault (inr (inr good)) tells quiet short read =
     let same : good.1.bytes ≡ bytes = good.1.file.told bytes tells in
@@ -112,16 +113,16 @@ faulty_file old new words s file bytes fault (inr (inl stopped)) tells quiet sho
         ends_with old new s t (stop.Ballots fault) Ballots is left (faulty.1 ∙ ap stop.Ballots one) refl
 
 long_file : (old new : Outside) (words : List (List ℕ)) (s : Status) (file bytes : List ℕ) → AtFile old new words s file → Tells old.told file bytes → (Rose old.faults new.faults → ⊥)
-    → ballot_limit < length bytes → EndsWith old new s Ballots (line_of stop.Long)
+    → LONGEST_FILE < length bytes → EndsWith old new s Ballots (line_of stop.Long)
 long_file old new words s file bytes (inl memory) tells quiet more = inr memory
 long_file old new words s file bytes (inr (inr good)) tells quiet more =
-    absurd (let same : good.1.bytes ≡ bytes = good.1.file.told bytes tells in let le : length bytes ≤ ballot_limit = rw (← same) good.1.file.within in omega arith)
+    absurd (let same : good.1.bytes ≡ bytes = good.1.file.told bytes tells in let le : length bytes ≤ LONGEST_FILE = rw (← same) good.1.file.within in omega arith)
 long_file old new words s file bytes (inr (inl stopped)) tells quiet more = by stopped.0 stopped.1 stopped.2 stopped.3
   where
     by : (t : Stop) → s ≡ status_of t → Stopped old new t → HasNoContest (source_of old new) file t → EndsWith old new s Ballots (line_of stop.Long)
     by t is left (inl unread) = absurd (elim unread.1.why [ inl rose ↦ quiet rose | inr lacks ↦ not_both old.told file bytes tells lacks ])
     by t is left (inr (inl long)) = ends_with old new s t stop.Long Ballots is left long.0 refl
-    by t is left (inr (inr faulty)) = absurd (let same : faulty.2.bytes ≡ bytes = faulty.2.file.told bytes tells in let le : length bytes ≤ ballot_limit = rw (← same) faulty.2.file.within in omega arith)
+    by t is left (inr (inr faulty)) = absurd (let same : faulty.2.bytes ≡ bytes = faulty.2.file.told bytes tells in let le : length bytes ≤ LONGEST_FILE = rw (← same) faulty.2.file.within in omega arith)
 
 absent_file : (old new : Outside) (words : List (List ℕ)) (s : Status) (file : List ℕ) → AtFile old new words s file → Lacks old.told file → EndsWith old new s Read (line_of (stop.Read file))
 absent_file old new words s file (inl memory) lacks = inr memory

@@ -2,7 +2,8 @@
 use Rattle.std.proofs.Common.{ℕ, List, ◌≡◌, ◌⊎◌, ◌∙◌, refl, ap, subst, inl, inr}
 use Rattle.std.specs.Prelude.{Ok, Err}
 use Rattle.ballot_csv.specs.declared.fault.BallotFault.{BallotFault}
-use Rattle.mov_run.specs.Allowed.{Allowed, Answer, HasNoCert, HasNoContest, IsFaultyFile, IsLong, ballot_limit}
+use Rattle.ballot_csv.specs.declared.limits.TheConstants.{LONGEST_FILE}
+use Rattle.mov_run.specs.Allowed.{Allowed, Answer, HasNoCert, HasNoContest, IsFaultyFile, IsLong}
 use Rattle.mov_run.specs.Checked.{CertCause, ReadCause, RefusalCause, WentOn}
 use Rattle.mov_run.specs.Promised.{Causes}
 use Rattle.mov_run.specs.Ran.{CutShort, Delivers, Outside, Ran, SaysLine, Stopped, Wrote, line_of, source_of, status_of}
@@ -77,7 +78,7 @@ at_read old new words job m silent why = record {
 }
 
 at_ballots : (old new : Outside) (words : List (List ℕ)) (job : Job) (file : List ℕ) → meaning words ≡ Ok job → BallotFile (meaning words) file → new.out ≡ old.out
-    → ((IsLong (source_of old new) file ballot_limit × SaysLine old new (line_of stop.Long))
+    → ((IsLong (source_of old new) file LONGEST_FILE × SaysLine old new (line_of stop.Long))
     ⊎ ((fault : BallotFault) × IsFaultyFile (source_of old new) file fault × SaysLine old new (line_of (stop.Ballots fault))))
     → Causes old new words Ballots
 at_ballots old new words job file m named silent why = record {

@@ -12,7 +12,8 @@ use Rattle.margin_check.specs.Verdicts.{IsRefusal}
 use Rattle.margin_check.specs.declared.verdict.Reason.{Reason}
 use Rattle.margin_check.specs.declared.verdict.Verdict.{Verdict}
 use Rattle.margin_check.specs.declared.verdict.Verdict.TheVariants.{Valid, No}
-use Rattle.mov_run.specs.Allowed.{Answers, HasNoCert, IsCertFile, IsChecked, IsVerdict, OverCert, cert_limit}
+use Rattle.cert_text.specs.declared.limits.TheConstants.{LONGEST_TEXT}
+use Rattle.mov_run.specs.Allowed.{Answers, HasNoCert, IsCertFile, IsChecked, IsVerdict, OverCert}
 use Rattle.mov_run.specs.Checked.{ChecksOver, IsToldCert, SaysRefused, SaysValid, WritesVerdict}
 use Rattle.mov_run.specs.Ends.{EndsWith, IsRefused, IsUntroubled}
 use Rattle.mov_run.specs.Ran.{Outside, Ran, Stopped, line_of, source_of, status_of}
@@ -106,7 +107,7 @@ is_refused old new s name k cert reason line at told untroubled refusal =
 -- ---- a text that is no certificate
 
 faulty_cert : (old new : Outside) (s : Status) (name bytes : List ℕ) (k : NamedPoll) (fault : CertFault) → AtCheck old new s name k → (Rose old.faults new.faults → ⊥) → Tells old.told name bytes
-    → length bytes ≤ cert_limit → cert_at bytes ≡ Err fault → EndsWith old new s Certificate (line_of (stop.Certificate fault))
+    → length bytes ≤ LONGEST_TEXT → cert_at bytes ≡ Err fault → EndsWith old new s Certificate (line_of (stop.Certificate fault))
 faulty_cert old new s name bytes k fault (inl memory) quiet tells short read = inr memory
 faulty_cert old new s name bytes k fault (inr (inr good)) quiet tells short read =
     let same : good.1.bytes ≡ bytes = good.1.file.told bytes tells in
@@ -122,16 +123,16 @@ faulty_cert old new s name bytes k fault (inr (inl stopped)) quiet tells short r
         ends_with old new s t (stop.Certificate fault) Certificate is left (faulty.1 ∙ ap stop.Certificate one) refl
 
 long_cert : (old new : Outside) (s : Status) (name bytes : List ℕ) (k : NamedPoll) → AtCheck old new s name k → (Rose old.faults new.faults → ⊥) → Tells old.told name bytes
-    → cert_limit < length bytes → EndsWith old new s Certificate (line_of stop.LongCertificate)
+    → LONGEST_TEXT < length bytes → EndsWith old new s Certificate (line_of stop.LongCertificate)
 long_cert old new s name bytes k (inl memory) quiet tells more = inr memory
 long_cert old new s name bytes k (inr (inr good)) quiet tells more =
-    absurd (let same : good.1.bytes ≡ bytes = good.1.file.told bytes tells in let le : length bytes ≤ cert_limit = rw (← same) good.1.file.within in omega arith)
+    absurd (let same : good.1.bytes ≡ bytes = good.1.file.told bytes tells in let le : length bytes ≤ LONGEST_TEXT = rw (← same) good.1.file.within in omega arith)
 long_cert old new s name bytes k (inr (inl stopped)) quiet tells more = by stopped.0 stopped.1 stopped.2 stopped.3
   where
     by : (t : Stop) → s ≡ status_of t → Stopped old new t → HasNoCert (source_of old new) name t → EndsWith old new s Certificate (line_of stop.LongCertificate)
     by t is left (inl unread) = absurd (elim unread.1.why [ inl rose ↦ quiet rose | inr lacks ↦ not_both old.told name bytes tells lacks ])
     by t is left (inr (inl long)) = ends_with old new s t stop.LongCertificate Certificate is left long.0 refl
-    by t is left (inr (inr faulty)) = absurd (let same : faulty.2.bytes ≡ bytes = faulty.2.file.told bytes tells in let le : length bytes ≤ cert_limit = rw (← same) faulty.2.file.within in omega arith)
+    by t is left (inr (inr faulty)) = absurd (let same : faulty.2.bytes ≡ bytes = faulty.2.file.told bytes tells in let le : length bytes ≤ LONGEST_TEXT = rw (← same) faulty.2.file.within in omega arith)
 
 absent_cert : (old new : Outside) (s : Status) (name : List ℕ) (k : NamedPoll) → AtCheck old new s name k → Lacks old.told name → EndsWith old new s Read (line_of (stop.Read name))
 absent_cert old new s name k (inl memory) lacks = inr memory

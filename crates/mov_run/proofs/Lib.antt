@@ -1,6 +1,5 @@
 pub mod Lines
 pub mod Ranges
-pub mod Numbers
 pub mod TallyScores
 pub mod TallyPairs
 pub mod TallySeats

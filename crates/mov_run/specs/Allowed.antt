@@ -11,7 +11,9 @@ use Rattle.cert_text.specs.CertText.{CertText}
 use Rattle.margin_solve.specs.Certificates.{IsCertOf}
 use Rattle.margin_check.specs.Meanings.{ClaimIsTrue}
 use Rattle.margin_check.specs.Validity.{IsValidCert}
-use Rattle.margin_check.specs.Verdicts.{IsRefusal}
+use Rattle.margin_check.specs.Verdicts.{IsJudged, IsRefusal}
+use Rattle.ballot_csv.specs.declared.limits.TheConstants.{LONGEST_FILE}
+use Rattle.cert_text.specs.declared.limits.TheConstants.{LONGEST_TEXT}
 use Rattle.mov_run.specs.Tally.{IsTally}
 use Rattle.mov_run.specs.Verdicts.{status_after, verdict_text}
 use Rattle.mov_run.specs.Words.{IsNoCommand, meaning}
@@ -27,14 +29,6 @@ use Rattle.mov_run.specs.declared.runs.Output.{Output}
 use Rattle.mov_run.specs.declared.runs.Status.TheVariants.{Done}
 use Rattle.mov_run.specs.declared.stops.Stop.{Stop}
 use Rattle.mov_run.specs.declared.stops.Stop.TheVariants.{Words, Ballots, Long, Certificate, LongCertificate, Read, Memory}
-
--- the most bytes of a ballot file
-abbrev pub ballot_limit : ℕ
-ballot_limit = 67108864
-
--- the most bytes of a certificate
-abbrev pub cert_limit : ℕ
-cert_limit = 1073741824
 
 -- what a run finds: what is told of the files, where the reading stopped, and the count of their faults before and now
 pub record Source : Type 0 where
@@ -67,20 +61,20 @@ pub record IsLong (s : Source) (name : List ℕ) (limit : ℕ) : Type 0 where
 -- the file stands for bytes that are the ballot file of this contest
 pub record IsContestFile (s : Source) (name : List ℕ) (k : NamedPoll) : Type 0 where
   pub bytes : List ℕ
-  pub file : IsFile s name ballot_limit bytes
+  pub file : IsFile s name LONGEST_FILE bytes
   pub read : read_of bytes ≡ Ok k
 
 -- the file stands for bytes whose first fault this is
 pub record IsFaultyFile (s : Source) (name : List ℕ) (fault : BallotFault) : Type 0 where
   pub bytes : List ℕ
-  pub file : IsFile s name ballot_limit bytes
+  pub file : IsFile s name LONGEST_FILE bytes
   pub read : read_of bytes ≡ Err fault
 
 -- why no contest comes of the ballot file, want of memory aside
 abbrev pub HasNoContest : Source → List ℕ → Stop → Type 0
 HasNoContest s name stop =
     ((stop ≡ Read name) × IsUnread s name)
-    ⊎ ((stop ≡ Long) × IsLong s name ballot_limit)
+    ⊎ ((stop ≡ Long) × IsLong s name LONGEST_FILE)
     ⊎ ((fault : BallotFault) × (stop ≡ Ballots fault) × IsFaultyFile s name fault)
 
 -- no contest comes of the ballot file, or the answer follows from the contest
@@ -92,7 +86,7 @@ OverContest s name next a =
 -- the file stands for bytes that are the text of this certificate, and of no other
 pub record IsCertFile (s : Source) (name : List ℕ) (cert : Cert) : Type 0 where
   pub bytes : List ℕ
-  pub file : IsFile s name cert_limit bytes
+  pub file : IsFile s name LONGEST_TEXT bytes
   pub text : CertText bytes cert
   pub only : (other : Cert) → CertText bytes other → other ≡ cert
   pub read : cert_at bytes ≡ Ok cert
@@ -100,7 +94,7 @@ pub record IsCertFile (s : Source) (name : List ℕ) (cert : Cert) : Type 0 wher
 -- the file stands for bytes that are the text of no certificate, and whose first fault this is
 pub record IsFaultyCert (s : Source) (name : List ℕ) (fault : CertFault) : Type 0 where
   pub bytes : List ℕ
-  pub file : IsFile s name cert_limit bytes
+  pub file : IsFile s name LONGEST_TEXT bytes
   pub none : (cert : Cert) → CertText bytes cert → ⊥
   pub read : cert_at bytes ≡ Err fault
 
@@ -108,7 +102,7 @@ pub record IsFaultyCert (s : Source) (name : List ℕ) (fault : CertFault) : Typ
 abbrev pub HasNoCert : Source → List ℕ → Stop → Type 0
 HasNoCert s name stop =
     ((stop ≡ Read name) × IsUnread s name)
-    ⊎ ((stop ≡ LongCertificate) × IsLong s name cert_limit)
+    ⊎ ((stop ≡ LongCertificate) × IsLong s name LONGEST_TEXT)
     ⊎ ((fault : CertFault) × (stop ≡ Certificate fault) × IsFaultyCert s name fault)
 
 -- no certificate comes of its file, or the answer follows from the certificate
@@ -119,7 +113,7 @@ OverCert s name next a =
 
 -- the verdict on a certificate: that it is valid, and then its claim is true, or the first part of validity that fails, with its line
 pub record IsVerdict (k : NamedPoll) (cert : Cert) (verdict : Verdict) : Type 0 where
-  pub valid : (verdict ≡ Valid) ↔ ((cert.rule ≡ Plurality) × IsValidCert k.poll cert)
+  pub valid : (verdict ≡ Valid) ↔ (IsJudged cert.rule × IsValidCert k.poll cert)
   pub refused : (reason : Reason) (line : ℕ) → (verdict ≡ No reason line) ↔ IsRefusal k.poll cert reason line
   pub claim : verdict ≡ Valid → ClaimIsTrue k.poll cert
 

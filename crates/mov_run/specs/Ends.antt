@@ -2,7 +2,7 @@
 use Rattle.std.specs.Prelude.{◌≡◌, ◌⊎◌, ◌≤◌, ℕ, List, length, Ok}
 use Rattle.mov_edge.specs.Outside.{Took, Tells, Rose}
 use Rattle.ballot_csv.specs.BallotFile.{NamedPoll, read_of}
-use Rattle.mov_run.specs.Allowed.{ballot_limit}
+use Rattle.ballot_csv.specs.declared.limits.TheConstants.{LONGEST_FILE}
 use Rattle.mov_run.specs.Ran.{Outside, SaysLine}
 use Rattle.mov_run.specs.declared.runs.Status.{Status}
 use Rattle.mov_run.specs.declared.runs.Status.TheVariants.{Done, Refused, Memory}
@@ -17,7 +17,7 @@ pub record IsUntroubled (old new : Outside) (s : Status) : Type 0 where
 pub record IsToldContest (old : Outside) (file : List ℕ) (k : NamedPoll) : Type 0 where
   pub bytes : List ℕ
   pub told : Tells old.told file bytes
-  pub short : length bytes ≤ ballot_limit
+  pub short : length bytes ≤ LONGEST_FILE
   pub read : read_of bytes ≡ Ok k
 
 -- the whole of this text went out, nothing else did, and all is well

@@ -7,7 +7,8 @@ use Rattle.ballot_csv.specs.PlainForm.{plain_form}
 use Rattle.ballot_csv.specs.declared.fault.BallotFault.{BallotFault}
 use Rattle.ballot_form.specs.declared.rule.Rule.{Rule}
 use Rattle.ballot_form.specs.declared.rule.Rule.TheVariants.{Plurality}
-use Rattle.mov_run.specs.Allowed.{Allowed, IsFaultyFile, IsLong, ballot_limit}
+use Rattle.ballot_csv.specs.declared.limits.TheConstants.{LONGEST_FILE}
+use Rattle.mov_run.specs.Allowed.{Allowed, IsFaultyFile, IsLong}
 use Rattle.cert_text.specs.CertText.{CertText}
 use Rattle.margin_solve.specs.Certificates.{IsCertOf}
 use Rattle.mov_run.specs.Checked.{CertCause, ReadCause, RefusalCause, ValidCause, WritesVerdict, LacksCert}
@@ -44,9 +45,9 @@ WritesPlain old new words s =
 -- a job whose ballot file is told and not accepted ends with what is wrong with the file
 pub record RefusesBallots (old new : Outside) (words : List (List ℕ)) (s : Status) : Type 0 where
   pub faulty : (file bytes : List ℕ) (fault : BallotFault) → BallotFile (meaning words) file → Tells old.told file bytes → (Rose old.faults new.faults → ⊥) →
-      length bytes ≤ ballot_limit → read_of bytes ≡ Err fault → EndsWith old new s Ballots (line_of (stop.Ballots fault))
+      length bytes ≤ LONGEST_FILE → read_of bytes ≡ Err fault → EndsWith old new s Ballots (line_of (stop.Ballots fault))
   pub long : (file bytes : List ℕ) → BallotFile (meaning words) file → Tells old.told file bytes → (Rose old.faults new.faults → ⊥) →
-      ballot_limit < length bytes → EndsWith old new s Ballots (line_of stop.Long)
+      LONGEST_FILE < length bytes → EndsWith old new s Ballots (line_of stop.Long)
   pub absent : (file : List ℕ) → BallotFile (meaning words) file → Lacks old.told file → (Rose old.faults new.faults → ⊥) →
       EndsWith old new s Read (line_of (stop.Read file))
   pub accepted : (file : List ℕ) (k : NamedPoll) → BallotFile (meaning words) file → IsToldContest old file k → (Rose old.faults new.faults → ⊥) →
@@ -73,7 +74,7 @@ pub record Causes (old new : Outside) (words : List (List ℕ)) (s : Status) : T
   pub words_come : (fault : WordFault) → meaning words ≡ Err fault → EndsWith old new s Words (line_of (stop.Words fault))
   pub no_command : IsNoCommand (meaning words) → s ≡ Words
   pub ballots : s ≡ Ballots → (file : List ℕ) × BallotFile (meaning words) file
-      × ((IsLong (source_of old new) file ballot_limit × SaysLine old new (line_of stop.Long))
+      × ((IsLong (source_of old new) file LONGEST_FILE × SaysLine old new (line_of stop.Long))
       ⊎ ((fault : BallotFault) × IsFaultyFile (source_of old new) file fault × SaysLine old new (line_of (stop.Ballots fault))))
   pub certificate : s ≡ Certificate → CertCause old new words
   pub read : s ≡ Read → ReadCause old new words

@@ -2,10 +2,10 @@
 use Rattle.std.specs.Prelude.{◌≡◌, ◌⊎◌, ℕ, List, ◌++◌, codes, decimal, Option, Result, Ok, Err}
 use Rattle.mov_edge.specs.Loads.{TookFirst}
 use Rattle.mov_edge.specs.Outside.{Named, Place, Took, Rose}
-use Rattle.ballot_csv.specs.declared.fault.BallotKind.{BallotKind}
-use Rattle.ballot_csv.specs.declared.fault.BallotKind.TheVariants as kind
-use Rattle.cert_text.specs.declared.fault.CertKind.{CertKind}
-use Rattle.cert_text.specs.declared.fault.CertKind.TheVariants as cert_kind
+use Rattle.ballot_csv.specs.Faults.{ballot_kind_text}
+use Rattle.ballot_csv.specs.declared.limits.TheConstants.{LONGEST_FILE}
+use Rattle.cert_text.specs.Faults.{cert_kind_text}
+use Rattle.cert_text.specs.declared.limits.TheConstants.{LONGEST_TEXT}
 use Rattle.mov_run.specs.Allowed.{Allowed, Answer, Source}
 use Rattle.mov_run.specs.Words.{meaning}
 use Rattle.mov_run.specs.declared.jobs.WordFault.{WordFault}
@@ -26,34 +26,13 @@ word_line_of word.SeatsMissing = codes "mov: words: seats missing\n"
 word_line_of word.SeatsUnwanted = codes "mov: words: seats unwanted\n"
 word_line_of word.Memory = codes "mov: out of memory\n"
 
-abbrev pub kind_text : BallotKind → List ℕ
-kind_text kind.Empty = codes "empty"
-kind_text kind.BadHead = codes "bad head"
-kind_text kind.NoCandidates = codes "no candidates"
-kind_text kind.TooManyCandidates = codes "too many candidates"
-kind_text kind.BadName = codes "bad name"
-kind_text kind.NameTwice = codes "name twice"
-kind_text kind.BadCount = codes "bad count"
-kind_text kind.UnknownName = codes "unknown name"
-kind_text kind.TooManyBallots = codes "too many ballots"
-kind_text kind.Memory = codes "out of memory"
-
-abbrev pub cert_kind_text : CertKind → List ℕ
-cert_kind_text cert_kind.BadLine = codes "bad line"
-cert_kind_text cert_kind.BadNumber = codes "bad number"
-cert_kind_text cert_kind.TooDeep = codes "too deep"
-cert_kind_text cert_kind.TreeEnds = codes "tree ends"
-cert_kind_text cert_kind.Tail = codes "tail"
-cert_kind_text cert_kind.TooManyNodes = codes "too many nodes"
-cert_kind_text cert_kind.Memory = codes "out of memory"
-
 -- the line that says why a run stopped
 abbrev pub line_of : Stop → List ℕ
 line_of (Words fault) = word_line_of fault
-line_of (Ballots fault) = codes "mov: ballots: record " ++ (decimal fault.at ++ (codes ": " ++ (kind_text fault.kind ++ codes "\n")))
-line_of Long = codes "mov: ballots: longer than 67108864 bytes\n"
+line_of (Ballots fault) = codes "mov: ballots: record " ++ (decimal fault.at ++ (codes ": " ++ (ballot_kind_text fault.kind ++ codes "\n")))
+line_of Long = codes "mov: ballots: longer than " ++ (decimal LONGEST_FILE ++ codes " bytes\n")
 line_of (Certificate fault) = codes "mov: certificate: line " ++ (decimal fault.line ++ (codes ": " ++ (cert_kind_text fault.kind ++ codes "\n")))
-line_of LongCertificate = codes "mov: certificate: longer than 1073741824 bytes\n"
+line_of LongCertificate = codes "mov: certificate: longer than " ++ (decimal LONGEST_TEXT ++ codes " bytes\n")
 line_of (Read name) = codes "mov: read failed: " ++ (name ++ codes "\n")
 line_of Memory = codes "mov: out of memory\n"
 
@@ -67,16 +46,16 @@ status_of (Read name) = status.Read
 status_of Memory = status.Memory
 
 -- the number that the program ends with
-abbrev pub number_of : Status → ℕ
-number_of status.Done = 0
-number_of status.Bounds = 1
-number_of status.Refused = 2
-number_of status.Words = 3
-number_of status.Ballots = 4
-number_of status.Certificate = 5
-number_of status.Read = 6
-number_of status.Write = 7
-number_of status.Memory = 8
+abbrev pub status_number : Status → ℕ
+status_number status.Done = 0
+status_number status.Bounds = 1
+status_number status.Refused = 2
+status_number status.Words = 3
+status_number status.Ballots = 4
+status_number status.Certificate = 5
+status_number status.Read = 6
+status_number status.Write = 7
+status_number status.Memory = 8
 
 -- a sink took the line, or a first part of it where a fault came
 abbrev pub Says : Option (List ℕ) → Option (List ℕ) → ℕ → ℕ → List ℕ → Type 0

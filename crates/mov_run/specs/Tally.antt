@@ -5,14 +5,14 @@ use Rattle.ballot_csv.specs.BallotFile.{NamedPoll}
 use Rattle.ballot_form.specs.Ballots.{Poll}
 use Rattle.ballot_form.specs.Scores.{borda_points, first_count, plurality_points, score_of}
 use Rattle.ballot_form.specs.declared.outcome.Outcome.{Outcome}
-use Rattle.ballot_form.specs.declared.outcome.Outcome.TheVariants.{Winner, NoWinner, Seats}
 use Rattle.ballot_form.specs.declared.rule.Rule.{Rule}
 use Rattle.ballot_form.specs.declared.rule.Rule.TheVariants.{Plurality, Borda, Condorcet, Dhondt, Irv}
 use Rattle.condorcet_count.specs.Preferences.{pref_of}
 use Rattle.dhondt_seats.specs.Seats.{reported_seats, votes_of}
 use Rattle.goal_rows.specs.Outcomes.{IsReported}
 use Rattle.irv_count.specs.Orders.{IsOrderBy, held_count, left_after}
-use Rattle.cert_text.specs.CertText.{line_text, rule_words}
+use Rattle.text_lines.specs.Words.{line_text}
+use Rattle.cert_text.specs.CertText.{outcome_words, rule_words}
 
 -- what is said of each of n numbers from a on, in order
 abbrev pub for_each : ℕ → ℕ → (ℕ → List ℕ) → List ℕ
@@ -22,14 +22,9 @@ for_each a n say = flat_map say (range_with_len a n)
 abbrev pub rule_text : Rule → List ℕ
 rule_text rule = line_text (rule_words rule)
 
-abbrev pub outcome_fields : Outcome → List (List ℕ)
-outcome_fields (Winner x) = decimal x ∷ []
-outcome_fields NoWinner = codes "none" ∷ []
-outcome_fields (Seats shares) = map decimal shares
-
 -- the line of the reported outcome
 abbrev pub reported_text : Outcome → List ℕ
-reported_text outcome = line_text (codes "reported" ∷ outcome_fields outcome)
+reported_text outcome = line_text (outcome_words outcome)
 
 -- the line of the candidate with this number, of these names
 abbrev pub name_text : List (List ℕ) → ℕ → List ℕ

@@ -1,8 +1,9 @@
 -- The text of a verdict on a certificate, and the status that it ends with.
 use Rattle.std.specs.Prelude.{ℕ, List, [], ◌∷◌, ◌++◌, codes, decimal}
-use Rattle.cert_text.specs.CertText.{claim_words, line_text}
+use Rattle.text_lines.specs.Words.{line_text}
+use Rattle.cert_text.specs.CertText.{claim_words}
 use Rattle.cert_text.specs.declared.cert.Cert.{Cert}
-use Rattle.margin_check.specs.Verdicts.{name_of, number_of}
+use Rattle.margin_check.specs.Verdicts.{reason_name, reason_number}
 use Rattle.margin_check.specs.declared.verdict.Reason.{Reason}
 use Rattle.margin_check.specs.declared.verdict.Verdict.{Verdict}
 use Rattle.margin_check.specs.declared.verdict.Verdict.TheVariants.{Valid, No}
@@ -16,7 +17,7 @@ valid_text cert = line_text (codes "VALID" ∷ []) ++ (rule_text cert.rule ++ li
 
 -- what is said of a refused one: the number and the name of the reason, and the line
 abbrev pub refused_text : Reason → ℕ → List ℕ
-refused_text reason line = line_text (codes "REFUSED" ∷ decimal (number_of reason) ∷ name_of reason ∷ codes "line" ∷ decimal line ∷ [])
+refused_text reason line = line_text (codes "REFUSED" ∷ decimal (reason_number reason) ∷ reason_name reason ∷ codes "line" ∷ decimal line ∷ [])
 
 -- the text of a verdict
 abbrev pub verdict_text : Cert → Verdict → List ℕ

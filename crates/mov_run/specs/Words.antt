@@ -1,34 +1,27 @@
 -- What the words of the command line ask for.
-use Rattle.std.specs.Prelude.{◌≡◌, ◌⊎◌, List, [], ◌∷◌, ℕ, ◌&&◌, nat_le, if◌then◌else◌, codes, bytes_eq, Option, Some, None, Result, Ok, Err, IsErrOf}
-use Rattle.ballot_csv.specs.Counts.{number_of}
-use Rattle.ballot_form.specs.Rules.{IsRule}
+use Rattle.std.specs.Prelude.{◌≡◌, ◌⊎◌, List, [], ◌∷◌, ℕ, nat_le, if◌then◌else◌, codes, bytes_eq, Option, Some, None, Result, Ok, Err, IsErrOf}
+use Rattle.ballot_form.specs.Rules.{IsRule, name_of_text}
+use Rattle.ballot_form.specs.declared.limits.TheConstants.{MOST_SEATS}
 use Rattle.ballot_form.specs.declared.rule.Rule.{Rule}
 use Rattle.ballot_form.specs.declared.rule.Rule.TheVariants.{Plurality, Borda, Condorcet, Dhondt, Irv}
+use Rattle.ballot_form.specs.declared.rule.RuleName.{RuleName}
+use Rattle.ballot_form.specs.declared.rule.RuleName.TheVariants as named
+use Rattle.text_lines.specs.Numbers.{numeral_of}
+use Rattle.text_lines.specs.declared.numbers.Numeral.{Numeral}
+use Rattle.text_lines.specs.declared.numbers.Numeral.TheVariants.{Number}
 use Rattle.mov_run.specs.declared.jobs.Job.{Job}
 use Rattle.mov_run.specs.declared.jobs.Job.TheVariants.{Tally, Margin, Check, Show}
-use Rattle.mov_run.specs.declared.rules.RuleName.{RuleName}
-use Rattle.mov_run.specs.declared.rules.RuleName.TheVariants as named
 use Rattle.mov_run.specs.declared.jobs.WordFault.{WordFault}
 use Rattle.mov_run.specs.declared.jobs.WordFault.TheVariants.{NoCommand, UnknownCommand, Line, UnknownRule, BadSeats, SeatsMissing, SeatsUnwanted, Memory}
 
--- what the name of a rule stands for, if it is one
-abbrev pub rule_name_of : List ℕ → Option RuleName
-rule_name_of name =
-    if bytes_eq name (codes "plurality") then Some named.Plurality
-    else if bytes_eq name (codes "borda") then Some named.Borda
-    else if bytes_eq name (codes "condorcet") then Some named.Condorcet
-    else if bytes_eq name (codes "dhondt") then Some named.Dhondt
-    else if bytes_eq name (codes "irv") then Some named.Irv
-    else None
+-- a number of seats, from 1 up
+abbrev pub seats_of : Numeral → Option ℕ
+seats_of (Number n) = if nat_le 1 n then Some n else None
+seats_of numeral = None
 
--- a number of seats, 1 to 500
-abbrev pub seats_of : Option ℕ → Option ℕ
-seats_of None = None
-seats_of (Some n) = if nat_le 1 n && nat_le n 500 then Some n else None
-
--- the number of seats that a text names
+-- the number of seats that a text names: 1 to 500
 abbrev pub seats_named : List ℕ → Option ℕ
-seats_named text = seats_of (number_of text)
+seats_named text = seats_of (numeral_of MOST_SEATS text)
 
 -- the rule without seats
 abbrev pub rule_alone : Option RuleName → Result Rule WordFault
@@ -60,11 +53,11 @@ tally_with (Ok rule) file = Ok (Tally rule file)
 -- a rule, a file, the word for seats, and their number
 abbrev pub seated_with : List ℕ → List ℕ → List ℕ → List ℕ → Result Job WordFault
 seated_with rule file option seats =
-    if bytes_eq option (codes "--seats") then tally_with (rule_with (rule_name_of rule) (seats_named seats)) file else Err Line
+    if bytes_eq option (codes "--seats") then tally_with (rule_with (name_of_text rule) (seats_named seats)) file else Err Line
 
 -- a rule and a file, and after them nothing, or the seats as two words
 abbrev pub options_of : List ℕ → List ℕ → List (List ℕ) → Result Job WordFault
-options_of rule file [] = tally_with (rule_alone (rule_name_of rule)) file
+options_of rule file [] = tally_with (rule_alone (name_of_text rule)) file
 options_of rule file (option ∷ seats ∷ []) = seated_with rule file option seats
 options_of rule file words = Err Line
 
@@ -74,8 +67,9 @@ tally_of (rule ∷ file ∷ options) = options_of rule file options
 tally_of words = Err Line
 
 -- the rule of this name, if `margin` knows it
-abbrev pub rule_named : List ℕ → Option Rule
-rule_named name = if bytes_eq name (codes "plurality") then Some Plurality else None
+abbrev pub rule_for_margin : Option RuleName → Option Rule
+rule_for_margin (Some named.Plurality) = Some Plurality
+rule_for_margin name = None
 
 abbrev pub margin_with : Option Rule → List ℕ → Result Job WordFault
 margin_with None file = Err UnknownRule
@@ -83,7 +77,7 @@ margin_with (Some rule) file = Ok (Margin rule file)
 
 -- `margin`: a rule and a file
 abbrev pub margin_of : List (List ℕ) → Result Job WordFault
-margin_of (rule ∷ file ∷ []) = margin_with (rule_named rule) file
+margin_of (rule ∷ file ∷ []) = margin_with (rule_for_margin (name_of_text rule)) file
 margin_of words = Err Line
 
 -- `check`: a ballot file and a certificate file

@@ -9,11 +9,12 @@ use crate::runs::{Output, Status};
 use crate::stops::Stop;
 use ballot_form::Text;
 use cert_text::Cert;
-use cert_text::lines::{push_claim, push_number, push_one, push_rule};
+use cert_text::written::{push_claim, push_rule};
 use margin_check::{Reason, Verdict, check};
 use mov_base::{List, Memory};
 use mov_edge::Files;
 use std::alloc::Global;
+use text_lines::written::{push_number, push_one};
 
 /// The verdict on the certificate in a file, for the contest in a ballot file.
 pub(crate) fn check_answer<F: Files>(

@@ -1,10 +1,10 @@
 // What the words of the command line ask for.
 ghost use Rattle.std.specs.Prelude.{◌≡◌, ◌⊎◌, ◌∷◌, codes, map, string_bytes, Err, IfOk, Ok};
-ghost use Rattle.ballot_form.specs.Rules.{IsRule};
-ghost use Rattle.mov_run.specs.Words.{IsLawful, Reads, margin_with, options_of, rule_named, seated_with};
+ghost use Rattle.ballot_form.specs.Rules.{IsRule, name_of_text};
+ghost use Rattle.mov_run.specs.Words.{IsLawful, Reads, margin_with, options_of, rule_for_margin, seated_with};
 
 use crate::rules::{rule_alone, rule_with};
-use ballot_form::{Rule, Text};
+use ballot_form::{Rule, RuleName, Text};
 use mov_base::Memory;
 use std::alloc::Global;
 
@@ -148,7 +148,7 @@ fn margin_job(alloc: Global, words: &[String]) -> Result<Job, WordFault>
 
 /// The job of a rule and a file after `margin`.
 fn margin_line(alloc: Global, rule: &str, file: &str) -> Result<Job, WordFault>
-    ensures reads { (result ≡ margin_with (rule_named rule.now) file.now) ⊎ (result ≡ Err WordFault.Memory) }
+    ensures reads { (result ≡ margin_with (rule_for_margin (name_of_text rule.now)) file.now) ⊎ (result ≡ Err WordFault.Memory) }
     ensures lawful { IfOk result IsLawful }
 {
     let Some(rule) = known_rule(rule) else {
@@ -162,10 +162,10 @@ fn margin_line(alloc: Global, rule: &str, file: &str) -> Result<Job, WordFault>
 
 /// The rule of this name, if `margin` knows it.
 fn known_rule(name: &str) -> Option<Rule>
-    ensures { result ≡ rule_named name.now }
+    ensures { result ≡ rule_for_margin (name_of_text name.now) }
 {
-    match name {
-        "plurality" => Some(Rule::Plurality),
+    match RuleName::named(name.as_bytes()) {
+        Some(RuleName::Plurality) => Some(Rule::Plurality),
         _ => None,
     }
 }

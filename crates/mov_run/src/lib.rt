@@ -21,14 +21,6 @@ mod tally_seats;
 
 pub use jobs::{Job, WordFault, parse};
 pub use laws::a_tally_is_one_text;
-pub use rules::RuleName;
 pub use runs::{Output, Status, run};
 pub use stops::Stop;
 pub use tally::tally_text;
-
-#[cfg(test)]
-mod check_tests;
-#[cfg(test)]
-mod tally_tests;
-#[cfg(test)]
-mod tests;

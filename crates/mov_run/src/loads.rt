@@ -5,18 +5,12 @@ ghost use Rattle.cert_text.specs.declared.fault.CertKind.TheVariants as cert_kin
 ghost use Rattle.mov_run.specs.Allowed.{Loads, LoadsCert, LoadsContest};
 
 use crate::stops::Stop;
-use ballot_csv::{BallotFault, BallotKind, read_ballots};
+use ballot_csv::{BallotFault, BallotKind, LONGEST_FILE, read_ballots};
 use ballot_form::{Contest, Text};
-use cert_text::{Cert, CertFault, CertKind, read_cert};
+use cert_text::{Cert, CertFault, CertKind, LONGEST_TEXT, read_cert};
 use mov_base::List;
 use mov_edge::{Files, LoadFault, read_whole};
 use std::alloc::Global;
-
-/// The most bytes of a ballot file.
-const BALLOT_LIMIT: u64 = 67_108_864;
-
-/// The most bytes of a certificate.
-const CERT_LIMIT: u64 = 1_073_741_824;
 
 /// Loads the contest of a ballot file.
 pub(crate) fn load_contest<F: Files>(
@@ -28,7 +22,7 @@ pub(crate) fn load_contest<F: Files>(
     ensures told { F.told files.new ≡ F.told files.old }
     ensures kept { IfOk result (λ _. F.faults files.new ≡ F.faults files.old) }
 {
-    let bytes = load(alloc, files, name, BALLOT_LIMIT, Stop::Long)?;
+    let bytes = load(alloc, files, name, LONGEST_FILE, Stop::Long)?;
     match read_ballots(alloc, bytes.as_slice()) {
         Ok(contest) => Ok(contest),
         Err(fault) => Err(ballot_stop(fault)),
@@ -51,7 +45,7 @@ pub(crate) fn load_cert<F: Files>(alloc: Global, files: &mut F, name: &Text) -> 
     ensures told { F.told files.new ≡ F.told files.old }
     ensures kept { IfOk result (λ _. F.faults files.new ≡ F.faults files.old) }
 {
-    let bytes = load(alloc, files, name, CERT_LIMIT, Stop::LongCertificate)?;
+    let bytes = load(alloc, files, name, LONGEST_TEXT, Stop::LongCertificate)?;
     match read_cert(alloc, bytes.as_slice()) {
         Ok(cert) => Ok(cert),
         Err(fault) => Err(cert_stop(fault)),

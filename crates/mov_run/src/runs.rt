@@ -2,7 +2,7 @@
 ghost use Rattle.std.specs.Prelude.{◌≡◌, ◌⊎◌, map, string_bytes, IfOk, Err};
 ghost use Rattle.ballot_form.specs.Rules.{IsRule};
 ghost use Rattle.mov_run.specs.Allowed.{Allowed, AnswersOrMemory};
-ghost use Rattle.mov_run.specs.Ran.{Ran, Sent, number_of, status_of};
+ghost use Rattle.mov_run.specs.Ran.{Ran, Sent, status_number, status_of};
 ghost use Rattle.mov_run.specs.Promised.{Promised};
 ghost use Rattle.mov_run.specs.Words.{meaning};
 ghost use Rattle.mov_run.specs.declared.jobs.WordFault.{WordFault as AFault};
@@ -49,7 +49,7 @@ pub enum Status {
 impl Status {
     /// The number that the program ends with.
     pub fn number(self) -> u8
-        ensures { result ≡ number_of self }
+        ensures { result ≡ status_number self }
     {
         match self {
             Status::Done => 0,

@@ -1,12 +1,12 @@
 // Why a run stops before its text is whole, and the line that says so.
-ghost use Rattle.std.specs.Prelude.{◌≡◌, ◌++◌};
-ghost use Rattle.mov_run.specs.Ran.{Says, WritesAll, cert_kind_text, kind_text, line_of, word_line_of};
+ghost use Rattle.std.specs.Prelude.{◌≡◌, ◌++◌, codes, decimal};
+ghost use Rattle.mov_run.specs.Ran.{Says, WritesAll, line_of, word_line_of};
 ghost use Rattle.mov_run.specs.declared.stops.Stop.TheVariants.{Memory};
 
 use crate::jobs::WordFault;
-use ballot_csv::{BallotFault, BallotKind};
+use ballot_csv::{BallotFault, LONGEST_FILE};
 use ballot_form::Text;
-use cert_text::{CertFault, CertKind};
+use cert_text::{CertFault, LONGEST_TEXT};
 use itoa::Buffer;
 use mov_base::Memory;
 use mov_edge::{Failed, Sink, write_whole};
@@ -45,11 +45,9 @@ pub(crate) fn say<E: Sink>(err: &mut E, stop: &Stop)
     match stop {
         Stop::Words(fault) => say_line(err, word_line(*fault).as_bytes()),
         Stop::Ballots(fault) => say_record(err, fault),
-        Stop::Long => say_line(err, b"mov: ballots: longer than 67108864 bytes\n"),
+        Stop::Long => say_limit(err, b"mov: ballots: longer than ", LONGEST_FILE),
         Stop::Certificate(fault) => say_cert_line(err, fault),
-        Stop::LongCertificate => {
-            say_line(err, b"mov: certificate: longer than 1073741824 bytes\n");
-        }
+        Stop::LongCertificate => say_limit(err, b"mov: certificate: longer than ", LONGEST_TEXT),
         Stop::Read { name } => {
             let _ = write_three(err, b"mov: read failed: ", name.as_str().as_bytes(), b"\n");
         }
@@ -73,44 +71,21 @@ fn word_line(fault: WordFault) -> &'static str
     }
 }
 
-/// The words for a fault of a ballot file.
-fn kind_words(kind: &BallotKind) -> &'static str
-    ensures { result.now ≡ kind_text kind.now }
-{
-    match kind {
-        BallotKind::Empty => "empty",
-        BallotKind::BadHead => "bad head",
-        BallotKind::NoCandidates => "no candidates",
-        BallotKind::TooManyCandidates => "too many candidates",
-        BallotKind::BadName => "bad name",
-        BallotKind::NameTwice => "name twice",
-        BallotKind::BadCount => "bad count",
-        BallotKind::UnknownName => "unknown name",
-        BallotKind::TooManyBallots => "too many ballots",
-        BallotKind::Memory => "out of memory",
-    }
-}
-
-/// The words for a fault of a certificate.
-fn cert_kind_words(kind: &CertKind) -> &'static str
-    ensures { result.now ≡ cert_kind_text kind.now }
-{
-    match kind {
-        CertKind::BadLine => "bad line",
-        CertKind::BadNumber => "bad number",
-        CertKind::TooDeep => "too deep",
-        CertKind::TreeEnds => "tree ends",
-        CertKind::Tail => "tail",
-        CertKind::TooManyNodes => "too many nodes",
-        CertKind::Memory => "out of memory",
-    }
-}
-
 /// Writes one line.
 pub(crate) fn say_line<E: Sink>(err: &mut E, line: &[u8])
     ensures { Says (E.taken err.old) (E.taken err.new) (E.faults err.old) (E.faults err.new) line.now }
 {
     let _ = write_whole(err, line);
+}
+
+/// Writes a line that ends with a limit in bytes.
+fn say_limit<E: Sink>(err: &mut E, words: &[u8], limit: u64)
+    ensures { Says (E.taken err.old) (E.taken err.new) (E.faults err.old) (E.faults err.new)
+        (words.now ++ (decimal limit ++ codes " bytes\n")) }
+{
+    let mut buffer = Buffer::new();
+    let number = buffer.format(limit).as_bytes();
+    let _ = write_three(err, words, number, b" bytes\n");
 }
 
 /// Writes the line of a fault in a ballot file.
@@ -119,7 +94,7 @@ fn say_record<E: Sink>(err: &mut E, fault: &BallotFault)
 {
     let mut buffer = Buffer::new();
     let number = buffer.format(fault.at).as_bytes();
-    let words = kind_words(&fault.kind).as_bytes();
+    let words = fault.kind.text().as_bytes();
     let _ = write_five(err, b"mov: ballots: record ", number, b": ", words, b"\n");
 }
 
@@ -129,7 +104,7 @@ fn say_cert_line<E: Sink>(err: &mut E, fault: &CertFault)
 {
     let mut buffer = Buffer::new();
     let number = buffer.format(fault.line).as_bytes();
-    let words = cert_kind_words(&fault.kind).as_bytes();
+    let words = fault.kind.text().as_bytes();
     let _ = write_five(err, b"mov: certificate: line ", number, b": ", words, b"\n");
 }
 

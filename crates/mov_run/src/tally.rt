@@ -2,7 +2,7 @@
 ghost use Rattle.std.specs.Prelude.{◌≡◌, ◌++◌, ◌∷◌, [], IfOk, OnOk, codes, decimal};
 ghost use Rattle.ballot_csv.specs.BallotFile.{named_poll_of};
 ghost use Rattle.ballot_form.specs.Rules.{IsRule};
-ghost use Rattle.cert_text.specs.CertText.{line_text};
+ghost use Rattle.text_lines.specs.Words.{line_text};
 ghost use Rattle.mov_run.specs.Tally.{IsCounted, IsTally, names_text, reported_text};
 ghost use Rattle.ballot_form.specs.declared.outcome.Outcome.TheVariants.{NoWinner, Seats, Winner};
 
@@ -11,9 +11,10 @@ use crate::tally_rounds::rounds_count;
 use crate::tally_scores::{borda_count, plurality_count};
 use crate::tally_seats::seats_count;
 use ballot_form::{Cand, Contest, Outcome, Roll, Rule, Text};
-use cert_text::lines::{push_list, push_number, push_reported, push_rule, push_two};
+use cert_text::written::{push_reported, push_rule};
 use mov_base::{List, Memory};
 use std::alloc::Global;
+use text_lines::written::{push_list, push_number, push_two};
 
 /// The text of the tally: the rule, the numbers of candidates and ballots, the names, what the rule counts, and the reported
 /// outcome. Each line is ended by a line feed, and its words are cut by single spaces.

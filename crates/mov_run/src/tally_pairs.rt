@@ -7,10 +7,10 @@ ghost use Rattle.mov_run.specs.Counted.{condorcet_outcome_of};
 
 use crate::tally::{push_no_winner, push_winner};
 use ballot_form::{Cand, Roll};
-use cert_text::lines::push_number;
 use condorcet_count::{Matrix, condorcet_outcome, pairs};
 use mov_base::{List, Memory};
 use std::alloc::Global;
+use text_lines::written::push_number;
 
 /// How many prefer the one to the other of each pair, and who is chosen in all pairs.
 pub(crate) fn pairs_count(alloc: Global, roll: &Roll) -> Result<List<u8>, Memory>

@@ -7,10 +7,10 @@ ghost use Rattle.mov_run.specs.Tally.{IsCounted, for_each, held_field, round_tex
 
 use crate::tally::push_winner;
 use ballot_form::{Cand, Roll};
-use cert_text::lines::push_number;
 use irv_count::{all_of, count_irv, held_counts, stands_in, without};
 use mov_base::{List, Memory};
 use std::alloc::Global;
+use text_lines::written::push_number;
 
 /// Who goes out in each round and what everybody holds, and who is left.
 #[tactic(auto, using(crate::proofs::TallyRounds::rounds_counted))]

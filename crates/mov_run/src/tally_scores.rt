@@ -6,10 +6,10 @@ ghost use Rattle.mov_run.specs.Tally.{IsCounted, reported_text, scores_text};
 
 use crate::tally::push_winner;
 use ballot_form::{Cand, Roll};
-use cert_text::lines::push_two;
 use mov_base::{List, Memory};
 use score_count::{borda, plurality, score_winner};
 use std::alloc::Global;
+use text_lines::written::push_two;
 
 /// The scores under plurality, and the winner.
 pub(crate) fn plurality_count(alloc: Global, roll: &Roll) -> Result<List<u8>, Memory>

@@ -1,20 +1,21 @@
 // The lines of votes and seats.
 ghost use Rattle.std.specs.Prelude.{◌≡◌, ◌≤◌, ◌++◌, ◌∷◌, [], IfOk, OnOk, codes, decimal, length, slice_index};
+ghost use Rattle.ballot_form.specs.declared.limits.TheConstants.{MOST_SEATS};
 ghost use Rattle.ballot_form.specs.declared.rule.Rule.TheVariants.{Dhondt};
-ghost use Rattle.cert_text.specs.CertText.{line_text};
+ghost use Rattle.text_lines.specs.Words.{line_text};
 ghost use Rattle.mov_run.specs.Tally.{IsCounted, seats_text};
 
 use crate::tally::push_seats;
 use ballot_form::Roll;
-use cert_text::lines::push_number;
 use dhondt_seats::{party_votes, seats};
 use mov_base::{List, Memory};
 use std::alloc::Global;
+use text_lines::written::push_number;
 
 /// The votes and the seats of each party, of `s` seats in all.
 pub(crate) fn seats_count(alloc: Global, roll: &Roll, s: u16) -> Result<List<u8>, Memory>
     requires some { 1 ≤ s }
-    requires most { s ≤ 500 }
+    requires most { s ≤ MOST_SEATS }
     ensures { IfOk result (λ text. IsCounted (Dhondt s) roll.now text) }
 {
     let counted = party_votes(alloc, roll)?;
