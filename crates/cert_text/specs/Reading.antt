@@ -4,6 +4,7 @@ use Rattle.std.specs.List.{position}
 use Rattle.text_lines.specs.Words.{fields_of}
 use Rattle.text_lines.specs.declared.fault.LineFault.{LineFault}
 use Rattle.text_lines.specs.declared.fault.LineFault.TheVariants as line
+use Rattle.cert_text.specs.declared.cert.Cert.{Cert}
 use Rattle.cert_text.specs.declared.fault.CertFault.{CertFault}
 use Rattle.cert_text.specs.declared.fault.CertKind.TheVariants as kind
 use Rattle.cert_text.specs.declared.reader.Reader.{Reader}
@@ -15,8 +16,8 @@ abbrev pub ◌>>=◌ : {A B : Type 0} → Result A CertFault → (A → Result B
 (Err e) >>= f = Err e
 
 -- the answer is what reading gives, unless memory ran out
-abbrev pub ReadsCert : {X : Type 0} → Result X CertFault → Result X CertFault → Type 0
-ReadsCert (Ok x) read = read ≡ Ok x
+abbrev pub ReadsCert : Result Cert CertFault → Result Cert CertFault → Type 0
+ReadsCert (Ok cert) read = read ≡ Ok cert
 ReadsCert (Err f) read = OrMemory f.kind (read ≡ Err f)
 
 -- the fault is want of memory, or that of the text

@@ -15,7 +15,11 @@ fn numbers_have_no_leading_zero_and_are_within_limits(rt: HostRuntime) -> Result
         (b"501", Numeral::Above, Err(LineFault::BadNumber)),
         (b"007", Numeral::LeadingZero, Err(LineFault::BadNumber)),
         (b"00", Numeral::LeadingZero, Err(LineFault::BadNumber)),
-        (b"18446744073709551616", Numeral::Above, Err(LineFault::BadNumber)),
+        (
+            b"18446744073709551616",
+            Numeral::Above,
+            Err(LineFault::BadNumber),
+        ),
         (b"", Numeral::NotDigits, Err(LineFault::BadLine)),
         (b"+7", Numeral::NotDigits, Err(LineFault::BadLine)),
         (b"0x", Numeral::NotDigits, Err(LineFault::BadLine)),
