@@ -3,12 +3,11 @@ use Rattle.std.proofs.Common.{ℕ, List, ◌≡◌, ◌≤◌, ◌<◌, ◌⊎�
 use Rattle.std.specs.Prelude.{Err}
 use Rattle.mov_edge.specs.Outside.{Lacks, Rose, Tells}
 use Rattle.ballot_csv.specs.BallotFile.{NamedPoll}
-use Rattle.ballot_form.specs.declared.rule.Rule.TheVariants.{Plurality}
 use Rattle.cert_text.specs.CertReading.{cert_at}
 use Rattle.cert_text.specs.declared.cert.Cert.{Cert}
 use Rattle.cert_text.specs.declared.fault.CertFault.{CertFault}
 use Rattle.margin_check.specs.Validity.{IsValidCert}
-use Rattle.margin_check.specs.Verdicts.{IsRefusal}
+use Rattle.margin_check.specs.Verdicts.{IsJudged, IsRefusal}
 use Rattle.margin_check.specs.declared.verdict.Reason.{Reason}
 use Rattle.margin_check.specs.declared.verdict.Verdict.{Verdict}
 use Rattle.margin_check.specs.declared.verdict.Verdict.TheVariants.{Valid, No}
@@ -90,7 +89,7 @@ judged old new s name k cert at told untroubled =
     let found = verdict_on old new s name k cert at told untroubled in
     said old new s k cert found.0 found.1 found.2 untroubled
 
-is_valid : (old new : Outside) (s : Status) (name : List ℕ) (k : NamedPoll) (cert : Cert) → AtCheck old new s name k → IsToldCert old name cert → IsUntroubled old new s → cert.rule ≡ Plurality
+is_valid : (old new : Outside) (s : Status) (name : List ℕ) (k : NamedPoll) (cert : Cert) → AtCheck old new s name k → IsToldCert old name cert → IsUntroubled old new s → IsJudged cert.rule
     → IsValidCert k.poll cert → SaysValid old new s k cert
 is_valid old new s name k cert at told untroubled known valid =
     let found = verdict_on old new s name k cert at told untroubled in

@@ -5,7 +5,6 @@ use Rattle.ballot_csv.specs.BallotFile.{NamedPoll, read_of}
 use Rattle.ballot_csv.specs.PlainForm.{plain_form}
 use Rattle.ballot_csv.specs.declared.fault.BallotFault.{BallotFault}
 use Rattle.ballot_form.specs.declared.contest.Contest.{Contest}
-use Rattle.ballot_form.specs.declared.rule.Rule.TheVariants.{Plurality}
 use Rattle.cert_text.specs.CertReading.{cert_at}
 use Rattle.cert_text.specs.CertText.{CertText}
 use Rattle.margin_solve.specs.Certificates.{IsCertOf}

@@ -27,7 +27,10 @@ pub(crate) fn rule_with(name: &str, seats: &str) -> Result<Rule, WordFault>
     ensures value { result ≡ words.rule_with (name_of_text name.now) (words.seats_named seats.now) }
     ensures lawful { IfOk result IsRule }
 {
-    match (RuleName::named(name.as_bytes()), seats_named(seats.as_bytes())) {
+    match (
+        RuleName::named(name.as_bytes()),
+        seats_named(seats.as_bytes()),
+    ) {
         (None, _) => Err(WordFault::UnknownRule),
         (Some(_), None) => Err(WordFault::BadSeats),
         (Some(RuleName::Dhondt), Some(seats)) => Ok(Rule::Dhondt(seats)),
