@@ -1,7 +1,7 @@
 // Whole runs of `check`: its verdicts, what is wrong with a certificate, and which fault comes first.
-use super::*;
-use crate::tests::words_of;
+use crate::runs::words_of;
 use mov_edge::{MemFiles, MemSink};
+use mov_run::run;
 use std::alloc::Global;
 use std::process::Abort;
 use std::test::Fail;

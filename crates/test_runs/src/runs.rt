@@ -1,6 +1,6 @@
 // Whole runs over files and sinks in memory: the texts, the fault lines, the statuses, and calls of the outside that fail.
-use super::*;
 use mov_edge::{MemFiles, MemSink};
+use mov_run::run;
 use std::alloc::{AllocError, Global};
 use std::process::Abort;
 use std::test::Fail;

@@ -1,5 +1,5 @@
 // Whole runs of `tally`: its texts under each rule, and what is wrong with its words.
-use crate::tests::expect;
+use crate::runs::expect;
 use std::test::Fail;
 
 #[test]
