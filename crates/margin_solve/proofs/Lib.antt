@@ -1,4 +1,5 @@
-pub mod Answers
+pub mod Nearest
+pub mod Trees
 pub mod Led
 pub mod Closer
 pub mod Printing

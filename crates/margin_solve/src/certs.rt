@@ -1,8 +1,11 @@
 // Certificates made of what was found.
-ghost use Rattle.std.specs.Prelude.{◌≡◌, ◌≤◌, ◌-◌, ◌∷◌, [], IfOk, replicate};
+ghost use Rattle.std.specs.Prelude.{◌≡◌, ◌≤◌, ◌<◌, ◌∷◌, [], ℕ, IfOk, replicate};
 ghost use Rattle.ballot_form.specs.Scores.{plurality_points};
+ghost use Rattle.ballot_form.specs.declared.outcome.Outcome.TheVariants.{Winner};
+ghost use Rattle.ballot_form.specs.declared.rule.Rule.TheVariants.{Plurality};
 ghost use Rattle.bound_tree.specs.Growth.{cuts_of};
 ghost use Rattle.bound_tree.specs.Plain.{Split};
+ghost use Rattle.goal_rows.specs.Goals.{root_goals};
 ghost use Rattle.goal_rows.specs.Outcomes.{IsLowestWithGreatest};
 ghost use Rattle.goal_rows.specs.Pairs.{IsPluralityMargin};
 ghost use Rattle.margin_solve.specs.Certificates.{IsCertOf, claimed, tree_for};
@@ -16,7 +19,7 @@ use mov_base::Memory;
 use std::alloc::{AllocError, Global};
 
 /// The certificate of a contest of one candidate: nothing turns it.
-#[tactic(auto, using(crate::proofs::Answers::alone_found))]
+#[tactic(auto, using(crate::proofs::Nearest::alone_found))]
 pub(crate) fn fixed_cert(alloc: Global, roll: &Roll, winner: Cand) -> Result<Cert, Memory>
     requires alone { roll.now.c ≡ 1 }
     requires reported { IsLowestWithGreatest plurality_points roll.now winner }
@@ -79,10 +82,11 @@ fn puts_of(alloc: Global, challenger: Cand, numbers: &[u32]) -> Result<PutList, 
     Ok(PutList::from_vec(puts))
 }
 
-/// The tree that shows so many.
+/// The tree that shows so many, whoever of the c candidates is reported.
+#[tactic(auto, using(crate::proofs::Trees::split_shown))]
 fn tree_of(alloc: Global, c: u8, count: u32) -> Result<BoundTree, Memory>
     requires some { 1 ≤ c }
-    ensures { IfOk result (λ tree. tree ≡ tree_for c count) }
+    ensures { IfOk result (λ tree. (x : ℕ) → x < c → tree ≡ tree_for (root_goals Plurality c (Winner x)) count) }
 {
     if count == 0 {
         Ok(BoundTree::leaf(alloc, Multipliers::new(alloc)))

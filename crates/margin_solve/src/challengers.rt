@@ -3,9 +3,9 @@ ghost use Rattle.std.specs.Prelude.{◌≡◌, ◌+◌, ◌*◌, ◌-◌, ◌<�
 ghost use Rattle.ballot_form.specs.Scores.{is_first, plurality_points};
 ghost use Rattle.goal_rows.specs.Outcomes.{IsLowestWithGreatest};
 ghost use Rattle.goal_rows.specs.Pairs.{IsPluralityMargin, first_led};
-ghost use Rattle.margin_solve.specs.Nearest.{IsCloserUpTo, IsNearestByScores};
+ghost use Rattle.margin_solve.specs.Nearest.{IsCloserUpTo, IsHalfUp, IsNearestByScores, behind_by};
 
-use ballot_form::{Cand, Roll};
+use ballot_form::{Cand, MOST_CANDIDATES, Roll};
 use mov_base::{List, Memory};
 use score_count::plurality;
 use std::alloc::Global;
@@ -21,7 +21,7 @@ pub(crate) struct Target {
 }
 
 /// The cheapest replacements that turn the outcome from the winner.
-#[tactic(auto, using(crate::proofs::Answers::nearest_found))]
+#[tactic(auto, using(crate::proofs::Nearest::nearest_found))]
 pub(crate) fn cheapest(alloc: Global, roll: &Roll, winner: Cand) -> Result<Target, Memory>
     requires others { 2 ≤ roll.now.c }
     requires reported { IsLowestWithGreatest plurality_points roll.now winner }
@@ -47,10 +47,10 @@ struct Near {
 /// The lowest-numbered of the challengers that the fewest replacements bring level.
 fn nearest(scores: &[u64], winner: Cand) -> Near
     requires others { 2 ≤ length scores.now }
-    requires few { length scores.now ≤ 255 }
+    requires few { length scores.now ≤ MOST_CANDIDATES }
     requires stands { winner < length scores.now }
     requires greatest { (y : ℕ) → y < length scores.now → slice_index scores.now y ≤ slice_index scores.now winner }
-    ensures { IsNearestByScores scores.now winner result.challenger result.count }
+    ensures { IsNearestByScores scores.now winner result }
 {
     let first = if winner == 0 { 1 } else { 0 };
     let mut near = Near {
@@ -65,12 +65,12 @@ fn nearest(scores: &[u64], winner: Cand) -> Near
 
 /// The candidate `j` where it is a challenger that fewer replacements bring level, and else the nearest so far.
 fn closer(scores: &[u64], winner: Cand, near: Near, j: usize) -> Near
-    requires few { length scores.now ≤ 255 }
+    requires few { length scores.now ≤ MOST_CANDIDATES }
     requires stands { winner < length scores.now }
     requires greatest { (y : ℕ) → y < length scores.now → slice_index scores.now y ≤ slice_index scores.now winner }
     requires within { j < length scores.now }
-    requires before { IsCloserUpTo scores.now winner j near.challenger near.count }
-    ensures { IsCloserUpTo scores.now winner (j + 1) result.challenger result.count }
+    requires before { IsCloserUpTo scores.now winner j near }
+    ensures { IsCloserUpTo scores.now winner (j + 1) result }
 {
     let challenger = j as u8;
     if challenger == winner {
@@ -89,8 +89,7 @@ fn lacking(scores: &[u64], winner: Cand, challenger: Cand) -> u64
     requires stands { winner < length scores.now }
     requires within { challenger < length scores.now }
     requires greatest { slice_index scores.now challenger ≤ slice_index scores.now winner }
-    ensures enough { slice_index scores.now winner - slice_index scores.now challenger ≤ 2 * result }
-    ensures none_spare { 2 * result ≤ (slice_index scores.now winner - slice_index scores.now challenger) + 1 }
+    ensures { IsHalfUp (behind_by scores.now winner challenger) result }
 {
     let behind = scores[winner as usize] - scores[challenger as usize];
     behind / 2 + behind % 2
@@ -112,7 +111,7 @@ fn led_by(alloc: Global, roll: &Roll, x: Cand, count: u64) -> Result<NumberList,
     Ok(List::from_vec(numbers))
 }
 
-/// Whether the candidate leads the ballot with the number `i + 1`.
+/// Whether the candidate is the first on the ballot with the number `i + 1`.
 fn leads(roll: &Roll, x: Cand, i: u32) -> bool
     requires { i < length roll.now.ballots }
     ensures { result ≡ is_first (slice_index_or roll.now.ballots i []) x }

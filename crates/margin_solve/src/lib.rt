@@ -8,9 +8,8 @@
 
 mod certs;
 mod challengers;
+mod limits;
 mod margins;
 
+pub use limits::LEAST_BUDGET;
 pub use margins::margin;
-
-#[cfg(test)]
-mod tests;

@@ -7,20 +7,21 @@ ghost use Rattle.margin_solve.specs.Certificates.{IsCertOf};
 
 use crate::certs::{fixed_cert, margin_cert};
 use crate::challengers::cheapest;
+use crate::limits::LEAST_BUDGET;
 use ballot_form::{Cand, Contest, Outcome, Roll, Rule};
-use cert_text::Cert;
+use cert_text::{Cert, MOST_BUDGET};
 use goal_rows::reported;
 use mov_base::Memory;
 use std::alloc::Global;
 
 /// The certificate of a contest under plurality. Of two or more challengers that as few replacements bring level it names the
 /// lower-numbered, and it names the ballots that the reported winner leads, lower numbers first. The budget is the most nodes of the
-/// tree; under plurality 145 are enough for any contest.
+/// tree; under plurality `LEAST_BUDGET` are enough for any contest.
 #[tactic(auto, using(crate::proofs::Printing::cert_printable))]
 pub fn margin(alloc: Global, contest: &Contest, rule: Rule, budget: u32) -> Result<Cert, Memory>
     requires plurality { rule ≡ Rule.Plurality }
-    requires enough { 145 ≤ budget }
-    requires most { budget ≤ 40000 }
+    requires enough { LEAST_BUDGET ≤ budget }
+    requires most { budget ≤ MOST_BUDGET }
     ensures found { IfOk result (λ cert. IsCertOf contest.now.roll cert) }
     ensures printable { IfOk result IsPrintable }
 {

@@ -3,4 +3,4 @@ use Rattle.margin_solve.specs.Nearest.{IsCloserUpTo}
 use Rattle.margin_solve.proofs.challengers.nearest.Goals as goal
 
 pub returns : goal.returns
-returns c = subst (λ n. IsCloserUpTo c.args.scores.now c.args.winner n c.loop-j.near.challenger c.loop-j.near.count) (omega (arith, c.loop-j-test.false)) c.loop-j.invariant
+returns c = subst (λ n. IsCloserUpTo c.args.scores.now c.args.winner n c.loop-j.near) (omega (arith, c.loop-j-test.false)) c.loop-j.invariant

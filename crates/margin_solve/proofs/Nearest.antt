@@ -1,4 +1,4 @@
--- From the scores to what the certificate promises.
+-- From the scores to the nearest challenger.
 use Rattle.std.proofs.Common.{ℕ, zero, suc, refl, List, ◌≡◌, ◌<◌, ◌≤◌, ◌*◌, ◌-◌, sym, subst, arith}
 use Rattle.std.specs.Prelude.{slice_index}
 use Rattle.ballot_form.specs.Ballots.{Poll}
@@ -9,7 +9,8 @@ use Rattle.ballot_form.specs.declared.rule.Rule.TheVariants.{Plurality}
 use Rattle.goal_rows.specs.Margins.{IsUnturnable}
 use Rattle.goal_rows.specs.Pairs.{IsPluralityMargin, first_led, IsNearest, deficit_of, points_for}
 use Rattle.goal_rows.proofs.Nearest.{alone_unturnable, margin_of_chosen, reaches_twice, twice_reaches}
-use Rattle.margin_solve.specs.Nearest.{IsHalfUp, IsNearestByScores}
+use Rattle.margin_solve.specs.Nearest.{IsHalfUp, IsNearestByScores, behind_by}
+use Rattle.margin_solve.specs.declared.challengers.Near.{Near}
 
 pub alone_found : (p : Poll) (x : ℕ) → p.c ≡ 1 → IsLowestWithGreatest plurality_points p x → IsUnturnable Plurality p
 alone_found p x one is = alone_unturnable p x one is
@@ -29,26 +30,31 @@ no_fewer d i k behind least = let h = half_of d in omega (arith, behind, h.1.non
 few_enough : (a b k : ℕ) → IsHalfUp (a - b) k → k ≤ a
 few_enough a b k h = omega (arith, h.enough, h.none_spare)
 
-nearest_of : (p : Poll) (scores : List ℕ) (x g k : ℕ) → AreScores plurality_points p scores → x < p.c → IsNearestByScores scores x g k → IsNearest p x g k
-nearest_of p scores x g k are stands near =
+nearest_of : (p : Poll) (scores : List ℕ) (x : ℕ) (near : Near) → AreScores plurality_points p scores → x < p.c → IsNearestByScores scores x near
+    → IsNearest p x near.challenger near.count
+nearest_of p scores x near are stands is =
+    let g = near.challenger in
+    let k = near.count in
     let size = are.one_each in
     let own : slice_index scores x ≡ score_of plurality_points p.ballots x = are.each x stands in
-    let at : (j : ℕ) → j < p.c → slice_index scores x - slice_index scores j ≡ deficit_of (points_for j) (points_for x) p.ballots = λ j lt. rw (own, are.each j lt) refl in
-    let below : g < p.c = omega (arith, near.stands) in
+    let at : (j : ℕ) → j < p.c → behind_by scores x j ≡ deficit_of (points_for j) (points_for x) p.ballots = λ j lt. rw (own, are.each j lt) refl in
+    let below : g < p.c = omega (arith, is.stands) in
     record {
       stands = below;
-      other = near.other;
-      reached = reaches_twice g x k p.ballots near.other (subst (λ n. k ≤ n) own (few_enough _ _ _ near.number)) (subst (λ n. n ≤ 2 * k) (at g below) near.number.enough);
+      other = is.other;
+      reached = reaches_twice g x k p.ballots is.other (subst (λ n. k ≤ n) own (few_enough _ _ _ is.number)) (subst (λ n. n ≤ 2 * k) (at g below) is.number.enough);
       fewest = λ j i lt differ reached. no_fewer _ i k (twice_reaches j x i p.ballots reached)
-          (λ m h. near.fewest j m (omega (arith, lt)) differ (subst (λ n. IsHalfUp n m) (sym (at j lt)) h));
+          (λ m h. is.fewest j m (omega (arith, lt)) differ (subst (λ n. IsHalfUp n m) (sym (at j lt)) h));
       lowest = λ j i lt differ reached.
           let lt' : j < p.c = omega (arith, lt, below) in
           no_fewer _ i (suc k) (twice_reaches j x i p.ballots reached)
-          (λ m h. near.lowest j m lt differ (subst (λ n. IsHalfUp n m) (sym (at j lt')) h));
+          (λ m h. is.lowest j m lt differ (subst (λ n. IsHalfUp n m) (sym (at j lt')) h));
     }
 
-pub nearest_found : (p : Poll) (scores numbers : List ℕ) (x g k : ℕ) → AreScores plurality_points p scores → IsLowestWithGreatest plurality_points p x → IsNearestByScores scores x g k
-    → numbers ≡ first_led x 1 k p.ballots → IsPluralityMargin p x g numbers
-nearest_found p scores numbers x g k are is near e =
+pub nearest_found : (p : Poll) (scores numbers : List ℕ) (x : ℕ) (near : Near) → AreScores plurality_points p scores → IsLowestWithGreatest plurality_points p x
+    → IsNearestByScores scores x near → numbers ≡ first_led x 1 near.count p.ballots → IsPluralityMargin p x near.challenger numbers
+nearest_found p scores numbers x near are is nearest e =
+    let g = near.challenger in
+    let k = near.count in
     let own : slice_index scores x ≡ score_of plurality_points p.ballots x = are.each x is.greatest.stands in
-    rw e (margin_of_chosen p x g k is (nearest_of p scores x g k are is.greatest.stands near) (subst (λ n. k ≤ n) own (few_enough _ _ _ near.number)))
+    rw e (margin_of_chosen p x g k is (nearest_of p scores x near are is.greatest.stands nearest) (subst (λ n. k ≤ n) own (few_enough _ _ _ nearest.number)))
