@@ -21,7 +21,8 @@ use Rattle.margin_solve.specs.declared.challengers.Target.{Target}
 
 -- the election of these ballots under plurality where x is reported
 abbrev pub election_for : Poll → ℕ → Election
-election_for p x = record { rule = Plurality; poll = p; reported = Winner x; roots = root_goals Plurality p.c (Winner x) }
+election_for p x =
+    record { rule = Plurality; poll = p; reported = Winner x; roots = root_goals Plurality p.c (Winner x) }
 
 -- each of these ballots is replaced by the one that ranks g alone
 abbrev pub claimed : ℕ → List ℕ → List Put
@@ -36,7 +37,8 @@ abbrev pub tree_for : List Goal → ℕ → Plain
 tree_for roots zero = Cut []
 tree_for roots (suc k) = split_for roots
 
--- nothing turns the outcome, since nobody else stands: there is no goal and no replacement, and the root is split into no goals
+-- nothing turns the outcome, since nobody else stands: there is no goal and no replacement, and the root is split into
+-- nothing
 pub record IsFixedCert (e : Election) (cert : Cert) : Type 0 where
   pub claim : cert.claim ≡ Fixed
   pub alone : e.poll.c ≡ 1

@@ -11,8 +11,8 @@ pub record IsHalfUp (d k : ℕ) : Type 0 where
 abbrev pub behind_by : List ℕ → ℕ → ℕ → ℕ
 behind_by scores x j = slice_index scores x - slice_index scores j
 
--- of the challengers below `to`, the nearest and those below it included, none needs fewer replacements than the nearest, and those
--- below it need more
+-- of the challengers below `to` none needs fewer replacements than the nearest of them, and those below the nearest need
+-- more
 pub record IsCloserUpTo (scores : List ℕ) (x to : ℕ) (near : Near) : Type 0 where
   pub stands : near.challenger < length scores
   pub other : near.challenger ≢ x

@@ -1,4 +1,4 @@
 // The limits of a search.
 
-/// The least budget of nodes that is enough for any contest that is decided by pairs: the root, and a node for each two candidates.
+/// The least budget that a search is given. It is enough for the root and a node for each two of the most candidates.
 pub const LEAST_BUDGET: u32 = 145;
