@@ -1,5 +1,10 @@
-//! Tests of whole runs: a ballot file in, a certificate or another answer out, by worked contests. It has no code of its own.
+//! Tests of whole runs: words, a ballot file and perhaps a certificate in, a text and a status out, byte for byte. It has no code of
+//! its own.
 #![tactic(auto)]
 
 #[cfg(test)]
-mod margin_solve;
+mod checks;
+#[cfg(test)]
+mod runs;
+#[cfg(test)]
+mod tallies;
