@@ -7,7 +7,7 @@ use Rattle.bound_tree.specs.declared.tree.Tree.{Tree}
 use Rattle.bound_tree.specs.declared.tree.Tree.TheVariants as program
 use Rattle.bound_tree.specs.Plain.{Plain, Kids, Split, Branch, Cut, More, kids_of, plain_of}
 use Rattle.bound_tree.specs.Plain as kids
-use Rattle.bound_tree.specs.Nodes.{size, size_all, height, highest, nodes_of, nodes_of_all, depths, depths_all}
+use Rattle.bound_tree.specs.Nodes.{size, size_all, cut_count, cut_count_all, height, highest, nodes_of, nodes_of_all, depths, depths_all}
 use Rattle.bound_tree.specs.Places.{IsNode, IsCut, IsAtDepth, IsPlace, IsPlaceIn}
 use Rattle.bound_tree.specs.Growth.{replaced, replaced_in, cuts_of}
 use Rattle.bound_tree.proofs.Shapes.{plain_Split, plain_Branch, plain_Cut}
@@ -73,6 +73,26 @@ mutual
     | inr past ↦ rw (le-ltb n (size kid) past) (omega (arith, size_replaced_in kids d (n - size kid) sub e new (rest_place kid kids d n sub e past at)))
   ]
 
+-- and the same for its cuts
+mutual
+  pub cuts_replaced : (t : Plain) (d n : ℕ) (sub : Plain) (e : ℕ) (new : Plain) → IsPlace t d n sub e → cut_count (replaced n new t) + cut_count sub ≡ cut_count t + cut_count new
+  cuts_replaced (Split kids) d zero sub e new at = omega (arith, ap cut_count (same_some (Split kids) sub at.node))
+  cuts_replaced (Branch f v low high) d zero sub e new at = omega (arith, ap cut_count (same_some (Branch f v low high) sub at.node))
+  cuts_replaced (Cut ms) d zero sub e new at = omega (arith, ap cut_count (same_some (Cut ms) sub at.node))
+  cuts_replaced (Cut ms) d (suc n) sub e new at = absurd (nowhere (Cut ms) sub n at.node)
+  cuts_replaced (Split kids) d (suc n) sub e new at = cuts_replaced_in kids (suc d) n sub e new (split_place kids d n sub e at)
+  cuts_replaced (Branch f v low high) d (suc n) sub e new at = elim (cases_lt n (size low)) [
+    | inl within ↦ rw (lt-ltb n (size low) within) (omega (arith, cuts_replaced low (suc d) n sub e new (low_place f v low high d n sub e within at)))
+    | inr past ↦ rw (le-ltb n (size low) past) (omega (arith, cuts_replaced high (suc d) (n - size low) sub e new (high_place f v low high d n sub e past at)))
+  ]
+
+  cuts_replaced_in : (kids : Kids) (d n : ℕ) (sub : Plain) (e : ℕ) (new : Plain) → IsPlaceIn kids d n sub e → cut_count_all (replaced_in n new kids) + cut_count sub ≡ cut_count_all kids + cut_count new
+  cuts_replaced_in kids.None d n sub e new at = absurd (omega (arith, slice_get_within [] n sub at.node))
+  cuts_replaced_in (More kid kids) d n sub e new at = elim (cases_lt n (size kid)) [
+    | inl within ↦ rw (lt-ltb n (size kid) within) (omega (arith, cuts_replaced kid d n sub e new (first_place kid kids d n sub e within at)))
+    | inr past ↦ rw (le-ltb n (size kid) past) (omega (arith, cuts_replaced_in kids d (n - size kid) sub e new (rest_place kid kids d n sub e past at)))
+  ]
+
 -- a node with what is below it reaches no deeper than the tree
 mutual
   pub height_at : (t : Plain) (d n : ℕ) (sub : Plain) (e : ℕ) → IsPlace t d n sub e → e + height sub ≤ d + height t
@@ -119,6 +139,10 @@ mutual
 pub size_cuts : (lists : List (List ℕ)) → size_all (cuts_of lists) ≡ length lists
 size_cuts [] = refl
 size_cuts (ms ∷ lists) = omega (arith, size_cuts lists)
+
+cut_count_cuts : (lists : List (List ℕ)) → cut_count_all (cuts_of lists) ≡ length lists
+cut_count_cuts [] = refl
+cut_count_cuts (ms ∷ lists) = omega (arith, cut_count_cuts lists)
 
 pub highest_cuts : (lists : List (List ℕ)) → highest (cuts_of lists) ≡ min (length lists) 1
 highest_cuts [] = refl
@@ -174,6 +198,9 @@ cut_within t n cut = omega (arith, slice_get_within (nodes_of t) n (Cut cut.mult
 pub size_grown : (t : Plain) (n e : ℕ) (new : Plain) → IsCut t n → IsAtDepth t n e → size (replaced n new t) + 1 ≡ size t + size new
 size_grown t n e new cut deep = size_replaced t 1 n (Cut cut.multipliers) e new (record { node = cut.node; deep = deep })
 
+pub cuts_grown : (t : Plain) (n e : ℕ) (new : Plain) → IsCut t n → IsAtDepth t n e → cut_count (replaced n new t) + 1 ≡ cut_count t + cut_count new
+cuts_grown t n e new cut deep = cuts_replaced t 1 n (Cut cut.multipliers) e new (record { node = cut.node; deep = deep })
+
 pub height_grown : (t : Plain) (n e : ℕ) (new : Plain) → IsCut t n → IsAtDepth t n e → height (replaced n new t) + 1 ≡ max (height t + 1) (e + height new)
 height_grown t n e new cut deep =
     let place : IsPlace t 1 n (Cut cut.multipliers) e = record { node = cut.node; deep = deep } in
@@ -183,11 +210,17 @@ height_grown t n e new cut deep =
 pub size_split : (lists : List (List ℕ)) (cuts : List Tree) → cuts ≡ map program.Cut lists → size (plain_of (program.Split cuts)) ≡ 1 + length lists
 size_split lists cuts is = ap size (split_of_cuts lists cuts is) ∙ omega (arith, size_cuts lists)
 
+pub cuts_split : (lists : List (List ℕ)) (cuts : List Tree) → cuts ≡ map program.Cut lists → cut_count (plain_of (program.Split cuts)) ≡ length lists
+cuts_split lists cuts is = ap cut_count (split_of_cuts lists cuts is) ∙ cut_count_cuts lists
+
 pub height_split : (lists : List (List ℕ)) (cuts : List Tree) → cuts ≡ map program.Cut lists → height (plain_of (program.Split cuts)) ≡ 1 + min (length lists) 1
 height_split lists cuts is = ap height (split_of_cuts lists cuts is) ∙ omega (arith, highest_cuts lists)
 
 pub size_branch : (f : Feature) (v : ℕ) (low high : List ℕ) → size (plain_of (program.Branch f v (program.Cut low) (program.Cut high))) ≡ 3
 size_branch f v low high = ap size (branch_of_cuts f v low high)
+
+pub cuts_branch : (f : Feature) (v : ℕ) (low high : List ℕ) → cut_count (plain_of (program.Branch f v (program.Cut low) (program.Cut high))) ≡ 2
+cuts_branch f v low high = ap cut_count (branch_of_cuts f v low high)
 
 pub height_branch : (f : Feature) (v : ℕ) (low high : List ℕ) → height (plain_of (program.Branch f v (program.Cut low) (program.Cut high))) ≡ 2
 height_branch f v low high = ap height (branch_of_cuts f v low high) ∙ omega arith

@@ -1,5 +1,5 @@
 -- To exchange a cut is to put the new lines in the place of its line.
-use Rattle.std.proofs.Common.{ℕ, zero, suc, ◌≡◌, ◌+◌, ◌-◌, ◌<◌, inl, inr, take, drop, map, List, [], ◌∷◌, ◌++◌, length, length-append, append-nil, append_assoc, add-one, refl, sym, ap, ◌∙◌, arith}
+use Rattle.std.proofs.Common.{ℕ, zero, suc, ◌≡◌, ◌+◌, ◌-◌, ◌<◌, inl, inr, take, drop, map, List, [], ◌∷◌, ◌++◌, length, length-append, append-nil, append_assoc, refl, sym, ap, ◌∙◌, arith}
 use Rattle.std.proofs.lemmas.Bool.{cases_lt, lt-ltb, le-ltb}
 use Rattle.std.proofs.lemmas.List.{take-append-le, drop-append-le}
 use Rattle.std.proofs.Math.Seq.{take-append-add, drop-append-add}
@@ -7,7 +7,7 @@ use Rattle.std.proofs.lemmas.Option.{slice_get_within}
 use Rattle.row_program.specs.declared.Feature.{Feature}
 use Rattle.bound_tree.specs.Plain.{Plain, Kids, Split, Branch, Cut, None, More, plain_of}
 use Rattle.bound_tree.specs.Nodes.{size, size_all}
-use Rattle.bound_tree.specs.Lines.{SplitInto, BranchBy, CutWith, kid_count, lines_of, lines_of_all}
+use Rattle.bound_tree.specs.Lines.{SplitInto, BranchBy, CutWith, kid_count, lines_of, lines_of_all, spliced}
 use Rattle.bound_tree.specs.Places.{IsCut, IsAtDepth, IsPlace, IsPlaceIn}
 use Rattle.bound_tree.specs.Growth.{replaced, replaced_in, cuts_of}
 use Rattle.bound_tree.specs.declared.tree.Tree.{Tree}
@@ -24,10 +24,6 @@ mutual
   length_lines_all : (kids : Kids) → length (lines_of_all kids) ≡ size_all kids
   length_lines_all None = refl
   length_lines_all (More k ks) = omega (arith, length-append (lines_of k) (lines_of_all ks), length_lines k, length_lines_all ks)
-
--- the list with others in the place of its n-th item
-abbrev spliced : {A : Type 0} → ℕ → List A → List A → List A
-spliced n new xs = take n xs ++ (new ++ drop (suc n) xs)
 
 spliced_left : {A : Type 0} (n : ℕ) (new xs ys : List A) → n < length xs → spliced n new xs ++ ys ≡ spliced n new (xs ++ ys)
 spliced_left n new xs ys within =
@@ -87,10 +83,8 @@ mutual
         ∙ spliced_right n (n - size kid) (lines_of new) (lines_of kid) (lines_of_all kids) (omega (arith, length_lines kid)))
   ]
 
-pub lines_grown : (t : Plain) (n e : ℕ) (new : Plain) → IsCut t n → IsAtDepth t n e → lines_of (replaced n new t) ≡ take n (lines_of t) ++ (lines_of new ++ drop (n + 1) (lines_of t))
-lines_grown t n e new cut deep =
-    lines_replaced t 1 n cut.multipliers e new (record { node = cut.node; deep = deep })
-    ∙ ap (λ k. take n (lines_of t) ++ (lines_of new ++ drop k (lines_of t))) (sym (add-one n))
+pub lines_grown : (t : Plain) (n e : ℕ) (new : Plain) → IsCut t n → IsAtDepth t n e → lines_of (replaced n new t) ≡ spliced n (lines_of new) (lines_of t)
+lines_grown t n e new cut deep = lines_replaced t 1 n cut.multipliers e new (record { node = cut.node; deep = deep })
 
 -- the lines of a split and of a branch of cuts
 kid_count_cuts : (lists : List (List ℕ)) → kid_count (cuts_of lists) ≡ length lists

@@ -21,7 +21,8 @@ abbrev mutual
 
 mutual
   pub plain_tree_of : (tree : Plain) → plain_of (tree_of tree) ≡ tree
-  plain_tree_of (Split kids) = ap plain_of (sym (program.rolls-Split (trees_of kids))) ∙ fold-roll-Tree Plain read_node _ ∙ ap Split (kids_trees_of kids)
+  plain_tree_of (Split kids) =
+      ap plain_of (sym (program.rolls-Split (trees_of kids))) ∙ fold-roll-Tree Plain read_node _ ∙ ap Split (kids_trees_of kids)
   plain_tree_of (Branch f v low high) =
       let a = plain_tree_of low in
       let b = plain_tree_of high in

@@ -10,12 +10,14 @@ abbrev mutual
   replaced zero new tree = new
   replaced (suc n) new (Split kids) = Split (replaced_in n new kids)
   replaced (suc n) new (Branch feature value low high) =
-      cond (ltb n (size low)) (Branch feature value (replaced n new low) high) (Branch feature value low (replaced (n - size low) new high))
+      cond (ltb n (size low)) (Branch feature value (replaced n new low) high)
+      (Branch feature value low (replaced (n - size low) new high))
   replaced (suc n) new (Cut multipliers) = Cut multipliers
 
   pub replaced_in : ℕ → Plain → Kids → Kids
   replaced_in n new None = None
-  replaced_in n new (More kid kids) = cond (ltb n (size kid)) (More (replaced n new kid) kids) (More kid (replaced_in (n - size kid) new kids))
+  replaced_in n new (More kid kids) =
+      cond (ltb n (size kid)) (More (replaced n new kid) kids) (More kid (replaced_in (n - size kid) new kids))
 
 -- kids that are cuts with these multipliers
 abbrev pub cuts_of : List (List ℕ) → Kids

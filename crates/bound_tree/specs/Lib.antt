@@ -4,4 +4,3 @@ pub mod Nodes
 pub mod Places
 pub mod Lines
 pub mod Growth
-pub mod Cuts

@@ -1,5 +1,5 @@
--- A tree as the lines of its nodes in preorder, each without what is below it.
-use Rattle.std.specs.Prelude.{ℕ, List, [], ◌∷◌, ◌++◌}
+-- A tree as the lines of its nodes in preorder, each without what is below it; and lines put in the place of one.
+use Rattle.std.specs.Prelude.{ℕ, List, [], ◌∷◌, ◌++◌, take, drop}
 use Rattle.std.proofs.Common.{suc}
 use Rattle.row_program.specs.declared.Feature.{Feature}
 use Rattle.bound_tree.specs.Plain.{Plain, Kids, Split, Branch, Cut, None, More}
@@ -23,3 +23,7 @@ abbrev mutual
   pub lines_of_all : Kids → List Line
   lines_of_all None = []
   lines_of_all (More kid kids) = lines_of kid ++ lines_of_all kids
+
+-- the list with others in the place of its n-th item
+abbrev pub spliced : {A : Type 0} → ℕ → List A → List A → List A
+spliced n new xs = take n xs ++ (new ++ drop (suc n) xs)

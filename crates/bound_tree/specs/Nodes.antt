@@ -1,4 +1,4 @@
--- The nodes of a tree: how many, how deep, and in which order.
+-- The nodes of a tree: how many, how many of them cuts, how deep, and in which order.
 use Rattle.std.specs.Prelude.{ℕ, ◌+◌, max, List, [], ◌∷◌, ◌++◌}
 use Rattle.std.proofs.Common.{suc}
 use Rattle.bound_tree.specs.Plain.{Plain, Kids, Split, Branch, Cut, None, More}
@@ -13,6 +13,17 @@ abbrev mutual
   pub size_all : Kids → ℕ
   size_all None = 0
   size_all (More kid kids) = size kid + size_all kids
+
+-- how many cuts a tree has
+abbrev mutual
+  pub cut_count : Plain → ℕ
+  cut_count (Split kids) = cut_count_all kids
+  cut_count (Branch feature value low high) = cut_count low + cut_count high
+  cut_count (Cut multipliers) = 1
+
+  pub cut_count_all : Kids → ℕ
+  cut_count_all None = 0
+  cut_count_all (More kid kids) = cut_count kid + cut_count_all kids
 
 -- how deep a tree is: a cut alone has 1
 abbrev mutual

@@ -5,7 +5,8 @@ use Rattle.bound_tree.specs.declared.tree.Tree as program
 use Rattle.bound_tree.specs.declared.tree.Tree.TheOpen as layer
 use Rattle.bound_tree.specs.declared.tree.Tree.TheFolds.{fold-Tree}
 
--- a split with its kids, a branch by a feature and a value with its low and its high half, or a cut with its multipliers
+-- a split with its kids, a branch by a feature and a value with its low and its high half, or a cut with its
+-- multipliers
 mutual
   pub data Plain : Type 0 where
     Split : Kids → Plain

@@ -1,9 +1,9 @@
 // Trees of few nodes and a bounded depth.
 ghost use Rattle.std.specs.Prelude.{◌≡◌, ◌+◌, ◌<◌, ◌≤◌, ◌↔◌, IfOk, IsOk, IsErrOf, IsTrue, OnOk, OnErr, [], ◌∷◌, ◌++◌, length, map, take, drop, max, min};
 ghost use Rattle.bound_tree.specs.Plain.{plain_of, Split, Branch, Cut};
-ghost use Rattle.bound_tree.specs.Nodes.{size, height};
+ghost use Rattle.bound_tree.specs.Nodes.{size, height, cut_count};
 ghost use Rattle.bound_tree.specs.Places.{IsNode, IsCut, IsAtDepth};
-ghost use Rattle.bound_tree.specs.Lines.{lines_of, SplitInto, BranchBy, CutWith};
+ghost use Rattle.bound_tree.specs.Lines.{lines_of, spliced, SplitInto, BranchBy, CutWith};
 ghost use Rattle.bound_tree.specs.Growth.{replaced, cuts_of};
 ghost use Rattle.bound_tree.specs.declared.tree.Tree.TheVariants as program;
 ghost use Rattle.bound_tree.specs.declared.fault.GrowFault.TheVariants as GrowFault;
@@ -12,7 +12,7 @@ use crate::find::find;
 use crate::growth::put;
 use crate::tree::{count, deepest};
 use crate::{GrowFault, MultiplierLists, Multipliers, Tree};
-use mov_base::{List, Memory};
+use mov_base::{List, Memory, One};
 use row_program::Feature;
 use std::alloc::Global;
 use std::marker::Model;
@@ -23,7 +23,7 @@ pub const MOST_NODES: u32 = 100_000;
 /// The greatest depth of a bound tree, where a leaf alone has the depth 1.
 pub const MOST_DEPTH: u32 = 256;
 
-/// A tree of bounds of at most 100,000 nodes and a depth of at most 256. Nodes are numbered from 0 in preorder.
+/// A tree of bounds of at most `MOST_NODES` nodes and a depth of at most `MOST_DEPTH`. Nodes are numbered from 0 in preorder.
 #[derive(Debug, Drop)]
 pub struct BoundTree {
     alloc: Global,
@@ -37,6 +37,7 @@ impl Model for BoundTree {
     ghost use Rattle.bound_tree.specs.Plain.{Plain, plain_of};
     ghost use Rattle.bound_tree.specs.Coding.{plain_code};
     ghost use Rattle.bound_tree.specs.Nodes as shape;
+    ghost use Rattle.bound_tree.specs.declared.bound.TheConstants.{MOST_NODES, MOST_DEPTH};
 
     ghost Value = { Plain };
 
@@ -47,8 +48,8 @@ impl Model for BoundTree {
     ghost invariant = { λ bound.
         (bound.nodes ≡ shape.size (plain_of bound.tree))
         × (bound.depth ≡ shape.height (plain_of bound.tree))
-        × (bound.nodes ≤ 100000)
-        × (bound.depth ≤ 256) };
+        × (bound.nodes ≤ MOST_NODES)
+        × (bound.depth ≤ MOST_DEPTH) };
 }
 
 impl BoundTree {
@@ -67,8 +68,8 @@ impl BoundTree {
 
     /// Holds a tree. It takes no memory.
     pub fn from_tree(alloc: Global, tree: Tree) -> BoundTree
-        requires few { size (plain_of tree) ≤ 100000 }
-        requires shallow { height (plain_of tree) ≤ 256 }
+        requires few { size (plain_of tree) ≤ MOST_NODES }
+        requires shallow { height (plain_of tree) ≤ MOST_DEPTH }
         ensures { result ≡ plain_of tree }
     {
         let nodes = count(&tree);
@@ -84,7 +85,7 @@ impl BoundTree {
     /// How many nodes the tree has.
     pub fn nodes(&self) -> u32
         ensures count { result ≡ size self.now }
-        ensures few { size self.now ≤ 100000 }
+        ensures few { size self.now ≤ MOST_NODES }
     {
         self.nodes
     }
@@ -92,7 +93,7 @@ impl BoundTree {
     /// How deep the tree is: a leaf alone has the depth 1.
     pub fn depth(&self) -> u32
         ensures depth { result ≡ height self.now }
-        ensures shallow { height self.now ≤ 256 }
+        ensures shallow { height self.now ≤ MOST_DEPTH }
     {
         self.depth
     }
@@ -122,16 +123,17 @@ impl BoundTree {
     }
 
     /// Replaces a cut by a split of cuts with these multipliers, in their order. After a fault the kids are dropped.
-    #[tactic(auto, using(crate::proofs::Laws::cut_within, crate::proofs::Laws::split_of_cuts, crate::proofs::LineLaws::lines_split, crate::proofs::Laws::size_split, crate::proofs::Laws::height_split))]
+    #[tactic(auto, using(crate::proofs::Laws::cut_within, crate::proofs::Laws::split_of_cuts, crate::proofs::LineLaws::lines_split, crate::proofs::Laws::size_split, crate::proofs::Laws::height_split, crate::proofs::Laws::cuts_split))]
     pub fn grow_split(&mut self, node: u32, kids: MultiplierLists) -> Result<(), GrowFault>
         requires cut { IsCut self.old node }
         ensures grown { OnOk result (self.new ≡ replaced node (Split (cuts_of kids)) self.old) }
         ensures lines { OnOk result (lines_of self.new
-            ≡ take node (lines_of self.old) ++ ((SplitInto (length kids) ∷ map CutWith kids) ++ drop (node + 1) (lines_of self.old))) }
+            ≡ spliced node (SplitInto (length kids) ∷ map CutWith kids) (lines_of self.old)) }
         ensures nodes { OnOk result (size self.new ≡ size self.old + length kids) }
-        ensures too_many { IsErrOf result GrowFault.TooManyNodes ↔ (100000 < size self.old + length kids) }
+        ensures cuts { OnOk result (cut_count self.new + 1 ≡ cut_count self.old + length kids) }
+        ensures too_many { IsErrOf result GrowFault.TooManyNodes ↔ (MOST_NODES < size self.old + length kids) }
         ensures too_deep { IsErrOf result GrowFault.TooDeep
-            ↔ (size self.old + length kids ≤ 100000) × (0 < length kids) × IsAtDepth self.old node 256 }
+            ↔ (size self.old + length kids ≤ MOST_NODES) × (0 < length kids) × IsAtDepth self.old node MOST_DEPTH }
         ensures unchanged { OnErr result (self.new ≡ self.old) }
     {
         let more = kids.len();
@@ -142,7 +144,7 @@ impl BoundTree {
     }
 
     /// Replaces a cut by a branch of two cuts with these multipliers. After a fault the two are dropped.
-    #[tactic(auto, using(crate::proofs::Laws::cut_within, crate::proofs::Laws::branch_of_cuts, crate::proofs::LineLaws::lines_branch, crate::proofs::Laws::size_branch, crate::proofs::Laws::height_branch))]
+    #[tactic(auto, using(crate::proofs::Laws::cut_within, crate::proofs::Laws::branch_of_cuts, crate::proofs::LineLaws::lines_branch, crate::proofs::Laws::size_branch, crate::proofs::Laws::height_branch, crate::proofs::Laws::cuts_branch))]
     pub fn grow_branch(
         &mut self,
         node: u32,
@@ -154,11 +156,12 @@ impl BoundTree {
         requires cut { IsCut self.old node }
         ensures grown { OnOk result (self.new ≡ replaced node (Branch feature value (Cut low) (Cut high)) self.old) }
         ensures lines { OnOk result (lines_of self.new
-            ≡ take node (lines_of self.old) ++ ((BranchBy feature value ∷ CutWith low ∷ CutWith high ∷ []) ++ drop (node + 1) (lines_of self.old))) }
+            ≡ spliced node (BranchBy feature value ∷ CutWith low ∷ CutWith high ∷ []) (lines_of self.old)) }
         ensures nodes { OnOk result (size self.new ≡ size self.old + 2) }
-        ensures too_many { IsErrOf result GrowFault.TooManyNodes ↔ (100000 < size self.old + 2) }
+        ensures cuts { OnOk result (cut_count self.new ≡ cut_count self.old + 1) }
+        ensures too_many { IsErrOf result GrowFault.TooManyNodes ↔ (MOST_NODES < size self.old + 2) }
         ensures too_deep { IsErrOf result GrowFault.TooDeep
-            ↔ (size self.old + 2 ≤ 100000) × IsAtDepth self.old node 256 }
+            ↔ (size self.old + 2 ≤ MOST_NODES) × IsAtDepth self.old node MOST_DEPTH }
         ensures unchanged { OnErr result (self.new ≡ self.old) }
     {
         check_room(&self.tree, self.nodes, self.depth, node, 2)?;
@@ -173,11 +176,12 @@ impl BoundTree {
         requires cut { IsCut self.old node }
         requires size { size (plain_of new) ≡ 1 + more }
         requires height { height (plain_of new) ≡ 1 + min more 1 }
-        requires few { size self.old + more ≤ 100000 }
-        requires shallow { 0 < more → IsAtDepth self.old node 256 → ⊥ }
+        requires few { size self.old + more ≤ MOST_NODES }
+        requires shallow { 0 < more → IsAtDepth self.old node MOST_DEPTH → ⊥ }
         ensures grown { self.new ≡ replaced node (plain_of new) self.old }
-        ensures lines { lines_of self.new ≡ take node (lines_of self.old) ++ (lines_of (plain_of new) ++ drop (node + 1) (lines_of self.old)) }
+        ensures lines { lines_of self.new ≡ spliced node (lines_of (plain_of new)) (lines_of self.old) }
         ensures nodes { size self.new ≡ size self.old + more }
+        ensures cuts { cut_count self.new + 1 ≡ cut_count self.old + cut_count (plain_of new) }
     {
         let depth = put_at(&mut self.tree, node, new);
         self.nodes += more;
@@ -186,17 +190,18 @@ impl BoundTree {
 }
 
 /// Puts `new` in the place of a cut, drops the cut, and gives its depth.
-#[tactic(auto, using(crate::proofs::Laws::cut_within, crate::proofs::Laws::depth_within, crate::proofs::LineLaws::lines_grown, crate::proofs::Laws::size_grown, crate::proofs::Laws::height_grown))]
+#[tactic(auto, using(crate::proofs::Laws::cut_within, crate::proofs::Laws::depth_within, crate::proofs::LineLaws::lines_grown, crate::proofs::Laws::size_grown, crate::proofs::Laws::height_grown, crate::proofs::Laws::cuts_grown))]
 fn put_at(tree: &mut Tree, node: u32, new: Tree) -> u32
     requires cut { IsCut (plain_of tree.old) node }
-    requires shallow { height (plain_of tree.old) ≤ 256 }
+    requires shallow { height (plain_of tree.old) ≤ MOST_DEPTH }
     ensures grown { plain_of tree.new ≡ replaced node (plain_of new) (plain_of tree.old) }
     ensures depth { IsAtDepth (plain_of tree.old) node result }
     ensures within { result ≤ height (plain_of tree.old) }
-    ensures lines { lines_of (plain_of tree.new)
-        ≡ take node (lines_of (plain_of tree.old)) ++ (lines_of (plain_of new) ++ drop (node + 1) (lines_of (plain_of tree.old))) }
+    ensures lines { lines_of (plain_of tree.new) ≡ spliced node (lines_of (plain_of new)) (lines_of (plain_of tree.old)) }
     ensures size { size (plain_of tree.new) + 1 ≡ size (plain_of tree.old) + size (plain_of new) }
-    ensures height { height (plain_of tree.new) + 1 ≡ max (height (plain_of tree.old) + 1) (result + height (plain_of new)) }
+    ensures cuts { cut_count (plain_of tree.new) + 1 ≡ cut_count (plain_of tree.old) + cut_count (plain_of new) }
+    ensures height { height (plain_of tree.new) + 1
+        ≡ max (height (plain_of tree.old) + 1) (result + height (plain_of new)) }
 {
     let mut swapped = new;
     match put(tree, node, 1, &mut swapped) {
@@ -210,11 +215,11 @@ fn check_room(tree: &Tree, nodes: u32, depth: u32, node: u32, more: usize) -> Re
     requires cut { IsCut (plain_of tree.now) node }
     requires nodes { nodes ≡ size (plain_of tree.now) }
     requires depth { depth ≡ height (plain_of tree.now) }
-    requires few { nodes ≤ 100000 }
-    requires shallow { depth ≤ 256 }
-    ensures too_many { IsErrOf result GrowFault.TooManyNodes ↔ (100000 < nodes + more) }
+    requires few { nodes ≤ MOST_NODES }
+    requires shallow { depth ≤ MOST_DEPTH }
+    ensures too_many { IsErrOf result GrowFault.TooManyNodes ↔ (MOST_NODES < nodes + more) }
     ensures too_deep { IsErrOf result GrowFault.TooDeep
-        ↔ (nodes + more ≤ 100000) × (0 < more) × IsAtDepth (plain_of tree.now) node 256 }
+        ↔ (nodes + more ≤ MOST_NODES) × (0 < more) × IsAtDepth (plain_of tree.now) node MOST_DEPTH }
     ensures no_memory { IsErrOf result GrowFault.Memory → ⊥ }
 {
     if more > (MOST_NODES - nodes) as usize {
@@ -231,8 +236,8 @@ fn check_room(tree: &Tree, nodes: u32, depth: u32, node: u32, more: usize) -> Re
 fn stands_lowest(tree: &Tree, depth: u32, node: u32) -> bool
     requires cut { IsCut (plain_of tree.now) node }
     requires depth { depth ≡ height (plain_of tree.now) }
-    requires shallow { depth ≤ 256 }
-    ensures { IsTrue result ↔ IsAtDepth (plain_of tree.now) node 256 }
+    requires shallow { depth ≤ MOST_DEPTH }
+    ensures { IsTrue result ↔ IsAtDepth (plain_of tree.now) node MOST_DEPTH }
 {
     if depth < MOST_DEPTH {
         return false;

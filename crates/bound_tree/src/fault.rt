@@ -7,9 +7,9 @@ use mov_base::Memory;
 /// Why a tree did not grow.
 #[derive(Debug, Drop)]
 pub enum GrowFault {
-    /// The tree would have passed 100,000 nodes.
+    /// The tree would have passed `MOST_NODES` nodes.
     TooManyNodes,
-    /// A kid would have stood deeper than 256.
+    /// A kid would have stood deeper than `MOST_DEPTH`.
     TooDeep,
     /// There was no memory.
     Memory,

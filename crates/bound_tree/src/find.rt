@@ -18,7 +18,8 @@ pub(crate) struct Place<'a> {
 #[tactic(auto, using(crate::proofs::Shapes::size_Split, crate::proofs::Shapes::size_Branch, crate::proofs::Shapes::size_Cut, crate::proofs::Shapes::height_Split, crate::proofs::Shapes::height_Branch))]
 pub(crate) fn find<'a>(tree: &'a Tree, number: u32, depth: u32) -> Result<Place<'a>, u32>
     requires shallow { depth + height (plain_of tree.now) < 2 ^ 32 }
-    ensures found { IfOk result (λ place. IsPlace (plain_of tree.now) depth number (plain_of place.tree.now) place.depth) }
+    ensures found { IfOk result
+        (λ place. IsPlace (plain_of tree.now) depth number (plain_of place.tree.now) place.depth) }
     ensures missed { IfErr result (λ rest. number ≡ size (plain_of tree.now) + rest) }
     ensures when { IsOk result ↔ (number < size (plain_of tree.now)) }
 {
@@ -40,7 +41,8 @@ pub(crate) fn find<'a>(tree: &'a Tree, number: u32, depth: u32) -> Result<Place<
 #[tactic(auto, using(crate::proofs::Shapes::highest_kid))]
 fn find_among<'a>(kids: &'a [Tree], number: u32, depth: u32) -> Result<Place<'a>, u32>
     requires shallow { depth + highest (kids_of (map plain_of kids.now)) < 2 ^ 32 }
-    ensures found { IfOk result (λ place. IsPlaceIn (kids_of (map plain_of kids.now)) depth number (plain_of place.tree.now) place.depth) }
+    ensures found { IfOk result
+        (λ place. IsPlaceIn (kids_of (map plain_of kids.now)) depth number (plain_of place.tree.now) place.depth) }
     ensures missed { IfErr result (λ rest. number ≡ sum_by (λ kid. size (plain_of kid)) kids.now + rest) }
     ensures when { IsOk result ↔ (number < sum_by (λ kid. size (plain_of kid)) kids.now) }
 {

@@ -41,8 +41,10 @@ pub(crate) fn put(tree: &mut Tree, number: u32, depth: u32, new: &mut Tree) -> R
 #[tactic(auto, using(crate::proofs::Shapes::size_kid, crate::proofs::Shapes::size_more, crate::proofs::Shapes::highest_kid, crate::proofs::Shapes::kid_kept))]
 fn put_among(kids: &mut List<Tree>, number: u32, depth: u32, new: &mut Tree) -> Result<u32, u32>
     requires shallow { depth + highest (kids_of (map plain_of kids.old)) < 2 ^ 32 }
-    ensures grown { OnOk result (kids_of (map plain_of kids.new) ≡ replaced_in number (plain_of new.old) (kids_of (map plain_of kids.old))) }
-    ensures found { IfOk result (λ deep. IsPlaceIn (kids_of (map plain_of kids.old)) depth number (plain_of new.new) deep) }
+    ensures grown { OnOk result (kids_of (map plain_of kids.new)
+        ≡ replaced_in number (plain_of new.old) (kids_of (map plain_of kids.old))) }
+    ensures found { IfOk result
+        (λ deep. IsPlaceIn (kids_of (map plain_of kids.old)) depth number (plain_of new.new) deep) }
     ensures missed { IfErr result (λ rest. number ≡ sum_by (λ kid. size (plain_of kid)) kids.old + rest) }
     ensures kept { OnErr result (new.new ≡ new.old) }
     ensures unchanged { OnErr result (kids.new ≡ kids.old) }

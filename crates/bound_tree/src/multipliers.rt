@@ -1,24 +1,26 @@
 // Lists of multipliers.
-ghost use Rattle.std.specs.Prelude.{◌≡◌, ◌<◌, ◌^◌, [], ◌∷◌, ◌++◌, All, length, IfOk, OnOk, OnErr};
+ghost use Rattle.std.specs.Prelude.{◌≡◌, ◌<◌, [], ◌∷◌, ◌++◌, All, length, IfOk, OnOk, OnErr};
+ghost use Rattle.exact_num.specs.declared.limits.TheConstants.{WIDE};
 
 use mov_base::{Copies, List, Memory};
 use std::alloc::Global;
 use std::marker::Model;
 
-/// The multipliers of a cut, one for each goal row and then one for each limit: numbers below 2^63, seen as their list.
+/// The multipliers of a cut, one for each goal row and then one for each limit: numbers that aren't wide, seen as their list.
 #[derive(Debug, Drop)]
 pub struct Multipliers {
     numbers: Vec<u64>,
 }
 
 impl Model for Multipliers {
-    ghost use Rattle.std.specs.Prelude.{List, ℕ, ◌<◌, ◌^◌, All};
+    ghost use Rattle.std.specs.Prelude.{List, ℕ, ◌<◌, All};
+    ghost use Rattle.exact_num.specs.declared.limits.TheConstants.{WIDE};
 
     ghost Value = { List ℕ };
 
     ghost view = { λ multipliers. multipliers.numbers.items };
 
-    ghost invariant = { λ multipliers. All (λ number. number < 2 ^ 63) multipliers.numbers.items };
+    ghost invariant = { λ multipliers. All (λ number. number < WIDE) multipliers.numbers.items };
 }
 
 impl Multipliers {
@@ -33,7 +35,7 @@ impl Multipliers {
 
     /// The multipliers of these numbers. It takes no memory.
     pub fn from_vec(numbers: Vec<u64>) -> Multipliers
-        requires small { All (λ number. number < 2 ^ 63) numbers.items }
+        requires small { All (λ number. number < WIDE) numbers.items }
         ensures { result ≡ numbers.items }
     {
         Multipliers { numbers }
@@ -42,7 +44,7 @@ impl Multipliers {
     /// The numbers, in a vector. It takes no memory.
     pub fn into_vec(self) -> Vec<u64>
         ensures numbers { result.items ≡ self }
-        ensures small { All (λ number. number < 2 ^ 63) self }
+        ensures small { All (λ number. number < WIDE) self }
     {
         let Multipliers { numbers } = self;
         numbers
@@ -50,7 +52,7 @@ impl Multipliers {
 
     /// Adds a multiplier at the end. Without memory the list stays as it was.
     pub fn push(&mut self, number: u64) -> Result<(), Memory>
-        requires small { number < 2 ^ 63 }
+        requires small { number < WIDE }
         ensures ok { OnOk result (self.new ≡ self.old ++ number ∷ []) }
         ensures err { OnErr result (self.new ≡ self.old) }
     {
@@ -61,7 +63,7 @@ impl Multipliers {
     /// Lends the numbers, in order.
     pub fn as_slice(&self) -> &[u64]
         ensures numbers { result.now ≡ self.now }
-        ensures small { All (λ number. number < 2 ^ 63) self.now }
+        ensures small { All (λ number. number < WIDE) self.now }
     {
         self.numbers.as_slice()
     }

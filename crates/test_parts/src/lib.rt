@@ -5,4 +5,12 @@
 #[cfg(test)]
 mod base;
 #[cfg(test)]
-mod exact_num;
+mod exact_num_tests;
+#[cfg(test)]
+mod lex_dual_tests;
+#[cfg(test)]
+mod pivot_form_tests;
+#[cfg(test)]
+mod programs;
+#[cfg(test)]
+mod row_program_tests;
