@@ -8,7 +8,6 @@ use Rattle.std.proofs.lemmas.List.{get_or_default}
 use Rattle.std.proofs.lemmas.List.FromFn.{length-map-range_with_len, get_or-map-range_with_len}
 use Rattle.std.proofs.lemmas.Nat.Gcd.{dvd_trans, le_of_dvd}
 use Rattle.std.proofs.Math.Nat.{one-dvd}
-use Rattle.row_program.specs.Sums.{LexNonnegative}
 use Rattle.row_program.specs.Forms.{Table, entry, right_side, tableau, empty_row}
 use Rattle.row_program.specs.Method.{row_of_basic, column, IsBest}
 use Rattle.row_program.specs.Points.{row_value, IsPoint, cost_of, IsLeastCost, IsLexAtMost, SameValues, IsLeastPoint}
@@ -17,10 +16,10 @@ use Rattle.row_program.specs.declared.program.Program.{Program}
 use Rattle.exact_num.proofs.Divisors.{lowest as lowest_divides}
 use Rattle.exact_num.proofs.Ring.{leaf, minus, times, same}
 use Rattle.pivot_form.proofs.Sums.{positive_product, cancel}
-use Rattle.dual_theory.specs.Values.{value_of, IsRun}
+use Rattle.dual_theory.proofs.FormValues.{value_of, IsRun}
 use Rattle.dual_theory.specs.Runs.{num_in, value_num, value_den}
 use Rattle.dual_theory.specs.Ends.{lowest_by, lowest_num, lowest_den, common_den, whole_number, point_whole, point_den}
-use Rattle.dual_theory.proofs.Lex.{LexNonnegative-times, LexNonnegative-same_signs}
+use Rattle.dual_theory.proofs.Lex.{LexNonnegative, LexNonnegative-times, LexNonnegative-same_signs}
 use Rattle.dual_theory.proofs.Orders.{base_value, base_least}
 use Rattle.dual_theory.proofs.Found.{option_cases, row_of_some}
 use Rattle.dual_theory.proofs.Chosen.{leaving_none, is_column}

@@ -16,7 +16,7 @@ use Rattle.row_program.specs.declared.program.Row.{Row}
 use Rattle.row_program.specs.declared.program.Program.{Program}
 use Rattle.exact_num.proofs.Ring.{leaf, plus, times, same}
 use Rattle.pivot_form.proofs.Sums.{sum_from-same}
-use Rattle.dual_theory.specs.Values.{row_at, value_of}
+use Rattle.dual_theory.proofs.FormValues.{row_at, value_of}
 use Rattle.dual_theory.specs.Multipliers.{MeetsRest}
 use Rattle.dual_theory.proofs.Sums.{sum_from-zero, sum_from-one, sum_from-nonneg}
 use Rattle.dual_theory.proofs.Directions.{combined}

@@ -7,11 +7,11 @@ use Rattle.std.proofs.lemmas.Bool.{cases_eq, cases_Bool, eq-eqb, ne_eqb, cond-tr
 use Rattle.std.proofs.lemmas.Int.{ints}
 use Rattle.std.proofs.lemmas.List.Elements.{All-cons}
 use Rattle.std.proofs.lemmas.List.FromFn.{length-range_with_len, get_or-range_with_len}
-use Rattle.row_program.specs.Sums.{LexNonnegative}
 use Rattle.row_program.specs.Forms.{Table, entry, right_side, basic_of, tableau, next_form, IsNonbasic, IsSolved}
 use Rattle.row_program.specs.Method.{row_of_basic, is_negative, negative_in, row_of_found, leaving, value_count, column, column_in, difference, comes_before, candidates, first_least, first_least_of, entering, step, step_at, pivot_at}
-use Rattle.pivot_form.specs.Invariant.{IsShaped}
+use Rattle.pivot_form.proofs.NextForm.{IsShaped}
 use Rattle.dual_theory.specs.Runs.{GoesOn}
+use Rattle.dual_theory.proofs.Lex.{LexNonnegative}
 use Rattle.dual_theory.proofs.Orders.{IsColumn}
 use Rattle.dual_theory.proofs.Found.{option_cases, none_some, some_same, find_some, find_none, row_of_some, row_of_is, row_of_free, AtMost, least_of, filter_all, filter_has}
 

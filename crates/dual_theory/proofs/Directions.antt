@@ -9,7 +9,7 @@ use Rattle.row_program.specs.Forms.{Tableau, IsNonbasic, IsSolved, Holds}
 use Rattle.exact_num.proofs.Ring.{leaf, plus, minus, times, opposite, same}
 use Rattle.pivot_form.proofs.Sums.{positive_product, positive_factor, zero_factor, zero_times, sum_from-combine, sum_from-same}
 use Rattle.pivot_form.proofs.Pivots.{IsPivot, next_holds}
-use Rattle.dual_theory.specs.Values.{IsDirection}
+use Rattle.dual_theory.proofs.FormValues.{IsDirection}
 use Rattle.dual_theory.proofs.Sums.{link_apart, column_sign}
 
 -- the row of a basic variable, or none

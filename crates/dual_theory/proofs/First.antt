@@ -12,7 +12,7 @@ use Rattle.row_program.specs.declared.program.Program.{Program}
 use Rattle.pivot_form.proofs.Sums.{sum_from-same}
 use Rattle.pivot_form.proofs.FirstForm.{first_at, basic_at, height_is, first_is_form, first_reduced, cost_own, cost_at, cost_past, slack_first, slack_variable, slack_constant, slack_own, slack_other}
 use Rattle.pivot_form.proofs.NextForm.{shape_of}
-use Rattle.dual_theory.specs.Values.{row_at, value_of, HasDirection, HasBase, IsRun}
+use Rattle.dual_theory.proofs.FormValues.{row_at, value_of, HasDirection, HasBase, IsRun}
 use Rattle.dual_theory.proofs.Sums.{sum_from-zero, sum_from-one, sum_from-split, sum_from-neg, sum_from-nonneg}
 use Rattle.dual_theory.proofs.Directions.{neg_mul}
 use Rattle.dual_theory.proofs.Values.{value_cost, value_own, value_slack, by_kind}

@@ -8,11 +8,10 @@ use Rattle.std.proofs.lemmas.Int.{ints}
 use Rattle.std.proofs.lemmas.List.Sums.{fails_before_first}
 use Rattle.std.proofs.lemmas.List.Elements.{All-cons}
 use Rattle.std.proofs.lemmas.List.Quantifiers.{position-Some}
-use Rattle.row_program.specs.Sums.{LexNonnegative}
 use Rattle.row_program.specs.Forms.{Table, Tableau, basic_of, tableau, IsNonbasic, IsSolved}
 use Rattle.row_program.specs.Method.{row_of_basic, lex_negative, difference, first_least}
-use Rattle.pivot_form.specs.Invariant.{IsShaped}
-use Rattle.dual_theory.proofs.Lex.{LexNonnegative-zeros, weaken}
+use Rattle.pivot_form.proofs.NextForm.{IsShaped}
+use Rattle.dual_theory.proofs.Lex.{LexNonnegative, LexNonnegative-zeros, weaken}
 use Rattle.dual_theory.proofs.Tests.{lex_test_false, lex_test_true, difference_trans}
 
 pub option_cases : {A : Type 0} (o : Option A) → (o ≡ None) ⊎ ((x : A) × (o ≡ Some x))

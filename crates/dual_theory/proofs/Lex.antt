@@ -1,9 +1,14 @@
 -- The lexicographic order.
-use Rattle.std.proofs.Common.{ℕ, zero, suc, ◌≡◌, ◌<◌, ◌≤◌, ◌+◌, arith, refl, sym, ◌∙◌, inl, inr}
+use Rattle.std.proofs.Common.{ℕ, zero, suc, ◌≡◌, ◌<◌, ◌≤◌, ◌+◌, ◌⊎◌, arith, refl, sym, ◌∙◌, inl, inr}
 use Rattle.std.specs.Prelude.{ℤ, pos, negsuc, ◌+ℤ◌, ◌*ℤ◌, ◌<ℤ◌, ◌≤ℤ◌}
 use Rattle.std.proofs.lemmas.Int.{ints}
-use Rattle.row_program.specs.Sums.{sum_from, LexPositive, LexNonnegative}
+use Rattle.row_program.specs.Sums.{sum_from, LexPositive}
 use Rattle.pivot_form.proofs.Sums.{positive_product, positive_factor, zero_factor, zero_times}
+
+-- the first of f v, f (v + 1), .., of n values, that isn't 0 is positive, or all are 0
+abbrev pub LexNonnegative : ℕ → ℕ → (ℕ → ℤ) → Type 0
+LexNonnegative zero v f = Unit {0}
+LexNonnegative (suc n) v f = (pos 0 <ℤ f v) ⊎ ((f v ≡ pos 0) × LexNonnegative n (suc v) f)
 
 pub weaken : (n v : ℕ) (f : ℕ → ℤ) → LexPositive n v f → LexNonnegative n v f
 weaken zero v f h = absurd h

@@ -1,3 +1,5 @@
+pub mod FormValues
+pub mod Measures
 pub mod Lex
 pub mod Sums
 pub mod Tests
@@ -17,4 +19,5 @@ pub mod Unique
 pub mod Shown
 pub mod Wide
 pub mod Ending
+pub mod CallerLemmas
 mod Examples

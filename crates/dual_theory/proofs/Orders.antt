@@ -5,13 +5,13 @@ use lib.IntN.{neg_ℤ}
 use Rattle.std.proofs.Math.Path.{fun_ext}
 use Rattle.std.proofs.lemmas.Int.{ints}
 use Rattle.std.proofs.lemmas.Bool.{cases_eq}
-use Rattle.row_program.specs.Sums.{sum_from, LexPositive, LexNonnegative}
+use Rattle.row_program.specs.Sums.{sum_from, LexPositive}
 use Rattle.row_program.specs.Forms.{Tableau, IsNonbasic, IsSolved, Holds}
 use Rattle.exact_num.proofs.Ring.{leaf, plus, minus, times, opposite, same}
 use Rattle.pivot_form.proofs.Sums.{positive_product, zero_factor, zero_times, sum_from-combine, sum_from-same}
 use Rattle.pivot_form.proofs.Pivots.{IsPivot, next_holds}
-use Rattle.dual_theory.specs.Values.{IsDirection, IsBase}
-use Rattle.dual_theory.proofs.Lex.{weaken, strengthen, LexPositive-add, LexPositive-scale, LexNonnegative-same_signs, LexNonnegative-zeros, LexNonnegative-times, LexNonnegative-sum}
+use Rattle.dual_theory.proofs.FormValues.{IsDirection, IsBase}
+use Rattle.dual_theory.proofs.Lex.{LexNonnegative, weaken, strengthen, LexPositive-add, LexPositive-scale, LexNonnegative-same_signs, LexNonnegative-zeros, LexNonnegative-times, LexNonnegative-sum}
 use Rattle.dual_theory.proofs.Sums.{sum_from-one, sum_from-neg, sum_from-but_one}
 use Rattle.dual_theory.proofs.Directions.{find_row, row_link, combined, neg_mul, next_nonbasic}
 

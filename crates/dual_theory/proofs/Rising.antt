@@ -8,9 +8,9 @@ use Rattle.row_program.specs.Forms.{Table, entry, right_side, tableau, next_form
 use Rattle.row_program.specs.Method.{row_of_basic, value_count, column, leaving, entering, step, run_of}
 use Rattle.row_program.specs.declared.program.Program.{Program}
 use Rattle.exact_num.proofs.Ring.{leaf, plus, minus, times, same}
-use Rattle.pivot_form.specs.Invariant.{IsShaped}
+use Rattle.pivot_form.proofs.NextForm.{IsShaped}
 use Rattle.pivot_form.proofs.Sums.{positive_product, positive_factor, zero_factor, zero_times}
-use Rattle.dual_theory.specs.Values.{value_of, IsBase, HasDirection, IsRun}
+use Rattle.dual_theory.proofs.FormValues.{value_of, IsBase, HasDirection, IsRun}
 use Rattle.dual_theory.specs.Runs.{num_in, den_in, value_num, value_den, gain, IsAbove, GoesOn, Rises, NoneTwice, ColumnsPositive}
 use Rattle.dual_theory.proofs.Directions.{find_row}
 use Rattle.dual_theory.proofs.Orders.{base_value, scale, scale_positive, scale_column}

@@ -4,18 +4,19 @@ use Rattle.std.specs.Prelude.{ℤ, pos, negsuc, ◌*ℤ◌, ◌-ℤ◌, ◌<ℤ�
 use lib.IntN.{neg_ℤ}
 use Rattle.std.proofs.lemmas.Int.{ints}
 use Rattle.std.proofs.lemmas.List.{length-set}
-use Rattle.row_program.specs.Sums.{LexPositive, LexNonnegative}
+use Rattle.row_program.specs.Sums.{LexPositive}
 use Rattle.row_program.specs.Forms.{Table, entry, right_side, basic_of, row_of, tableau, next_form, next_row, IsNonbasic}
 use Rattle.row_program.specs.Method.{value_count, column, difference, leaving, entering, step, run_of}
 use Rattle.row_program.specs.declared.program.Program.{Program}
 use Rattle.exact_num.specs.Divisors.{row_gcd}
 use Rattle.exact_num.proofs.Ring.{leaf, times, opposite, same}
-use Rattle.pivot_form.specs.Invariant.{IsShaped}
+use Rattle.pivot_form.proofs.NextForm.{IsShaped}
 use Rattle.pivot_form.proofs.Sums.{positive_product}
 use Rattle.pivot_form.proofs.Equations.{turned_over, IsTurned, length-map_from}
 use Rattle.pivot_form.proofs.Pivots.{IsPivot, next_holds, next_solved}
 use Rattle.pivot_form.proofs.NextForm.{is_pivot, is_reduced, lead_of, mixed}
-use Rattle.dual_theory.specs.Values.{value_of, IsDirection, IsBase, HasDirection, IsRun}
+use Rattle.dual_theory.proofs.FormValues.{value_of, IsDirection, IsBase, HasDirection, IsRun}
+use Rattle.dual_theory.proofs.Lex.{LexNonnegative}
 use Rattle.dual_theory.proofs.Directions.{row_link, combined, next_nonbasic, next_direction_leaving, next_direction_other}
 use Rattle.dual_theory.proofs.Orders.{other_rising, other_candidate, next_base, base_rises}
 use Rattle.dual_theory.proofs.Found.{one_row}

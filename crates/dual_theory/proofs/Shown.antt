@@ -21,7 +21,7 @@ use Rattle.exact_num.specs.Divisors.{gcd_of, gcd_with}
 use Rattle.exact_num.proofs.Divisors.{fold_divides, fold_greatest, one_left}
 use Rattle.exact_num.proofs.Ring.{leaf, times, opposite, same}
 use Rattle.pivot_form.proofs.Sums.{positive_product, sum_from-same, sum_from-scale}
-use Rattle.dual_theory.specs.Values.{value_of, IsRun}
+use Rattle.dual_theory.proofs.FormValues.{value_of, IsRun}
 use Rattle.dual_theory.specs.Multipliers.{weighted, BoundsCost, RulesOut, divisor_of, lowest, IsLowest, slack_sizes, multipliers_of}
 use Rattle.dual_theory.proofs.Sums.{sum_from-split, sum_from-nonneg, sum_from-neg, kept_below}
 use Rattle.dual_theory.proofs.Directions.{find_row}

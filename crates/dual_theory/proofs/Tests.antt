@@ -3,10 +3,10 @@ use Rattle.std.proofs.Common.{ℕ, zero, suc, ◌≡◌, arith, refl, sym, ◌�
 use Rattle.std.specs.Prelude.{ℤ, pos, negsuc, ◌+ℤ◌, ◌*ℤ◌, ◌-ℤ◌, ◌<ℤ◌, ◌≤ℤ◌, int_lt}
 use lib.IntN.{neg_ℤ}
 use Rattle.std.proofs.lemmas.Int.{ints}
-use Rattle.row_program.specs.Sums.{LexPositive, LexNonnegative}
+use Rattle.row_program.specs.Sums.{LexPositive}
 use Rattle.row_program.specs.Method.{lex_negative, difference}
 use Rattle.exact_num.proofs.Ring.{leaf, plus, minus, times, same}
-use Rattle.dual_theory.proofs.Lex.{LexNonnegative-add, LexNonnegative-same_signs, LexNonnegative-times}
+use Rattle.dual_theory.proofs.Lex.{LexNonnegative, LexNonnegative-add, LexNonnegative-same_signs, LexNonnegative-times}
 
 test_true : (x y : ℤ) → x <ℤ y → int_lt x y ≡ true
 test_true x y h = grind (arith, ints)

@@ -11,7 +11,7 @@ use Rattle.row_program.specs.declared.program.Row.{Row}
 use Rattle.row_program.specs.declared.program.Program.{Program}
 use Rattle.exact_num.proofs.Ring.{mul_add, leaf, plus, times, same}
 use Rattle.pivot_form.proofs.Sums.{zero_times}
-use Rattle.dual_theory.specs.Values.{cost_at, row_at, value_of}
+use Rattle.dual_theory.proofs.FormValues.{cost_at, row_at, value_of}
 use Rattle.dual_theory.proofs.Sums.{sum_from-zero}
 use Rattle.dual_theory.proofs.Directions.{combined}
 

@@ -11,7 +11,7 @@ use Rattle.row_program.specs.Forms.{Table, first_large_of}
 use Rattle.row_program.specs.Method.{leaving, step, run_of, IsBest, IsNever, HasLargeNumber, IsWide}
 use Rattle.row_program.specs.declared.program.Program.{Program}
 use Rattle.dual_theory.specs.Ends.{common_den, lowest_den, point_whole, point_den, large_in_point, IsWideSize}
-use Rattle.dual_theory.specs.Values.{IsRun}
+use Rattle.dual_theory.proofs.FormValues.{IsRun}
 use Rattle.dual_theory.specs.Runs.{value_den}
 use Rattle.dual_theory.proofs.Found.{none_some, some_same, find_some, find_none}
 use Rattle.dual_theory.proofs.Chosen.{step_stays_best, step_stays_never}

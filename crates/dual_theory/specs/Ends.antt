@@ -1,7 +1,8 @@
 -- The point of the last form: the values of the program's variables in their least common denominator.
-use Rattle.std.specs.Prelude.{ℕ, suc, zero, ◌≡◌, ◌<◌, ◌+◌, ◌*◌, ◌/◌, ◌^◌, ◌⊎◌, List, map, ◌++◌, length, nat_le, unsigned_abs, Option, Some, None, find}
+use Rattle.std.specs.Prelude.{ℕ, suc, zero, ◌≡◌, ◌<◌, ◌+◌, ◌*◌, ◌/◌, ◌⊎◌, List, map, ◌++◌, length, nat_le, unsigned_abs, Option, Some, None, find, Bool}
 use Rattle.std.specs.List.{range_with_len}
 use Rattle.exact_num.specs.Divisors.{gcd_of}
+use Rattle.exact_num.specs.declared.limits.TheConstants.{WIDE}
 use Rattle.row_program.specs.Forms.{Table, first_large_of}
 use Rattle.row_program.specs.Method.{run_of, IsBest, IsNever, IsWide}
 use Rattle.row_program.specs.declared.program.Program.{Program}
@@ -40,15 +41,22 @@ point_whole p t = whole_numbers t (length p.costs)
 abbrev pub point_den : Program → Table → ℕ
 point_den p t = common_den t (length p.costs)
 
+-- a number has 63 bits or more
+abbrev pub is_large : ℕ → Bool
+is_large x = nat_le WIDE x
+
 -- the first of the common denominators, and then of the numbers, that has 63 bits or more
 abbrev pub large_in_point : Program → Table → Option ℕ
-large_in_point p t = find (λ x. nat_le (2 ^ 63) x) (map (common_den t) (range_with_len 1 (length p.costs)) ++ point_whole p t)
+large_in_point p t =
+    find is_large (map (common_den t) (range_with_len 1 (length p.costs)) ++ point_whole p t)
 
 -- the number that `solve` names where a program is wide
 abbrev pub IsWideSize : Program → ℕ → Type 0
 IsWideSize p size =
-    ((k : ℕ) × (first_large_of (run_of p k).rows ≡ Some size) × ((j : ℕ) → j < k → first_large_of (run_of p j).rows ≡ None))
-    ⊎ ((k : ℕ) × IsBest (run_of p k) × ((j : ℕ) → first_large_of (run_of p j).rows ≡ None) × (large_in_point p (run_of p k) ≡ Some size))
+    ((k : ℕ) × (first_large_of (run_of p k).rows ≡ Some size)
+    × ((j : ℕ) → j < k → first_large_of (run_of p j).rows ≡ None))
+    ⊎ ((k : ℕ) × IsBest (run_of p k) × ((j : ℕ) → first_large_of (run_of p j).rows ≡ None)
+    × (large_in_point p (run_of p k) ≡ Some size))
 
 -- a run ends: the program is wide, or it isn't and some form is the last
 abbrev pub HasEnd : Program → Type 0

@@ -1,5 +1,3 @@
-pub mod Values
 pub mod Runs
-pub mod Measures
 pub mod Ends
 pub mod Multipliers

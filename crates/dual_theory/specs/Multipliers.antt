@@ -21,7 +21,9 @@ weighted (m ∷ ms) (row ∷ rows) whole den = pos m *ℤ row_value row whole de
 
 -- where the sum isn't negative, the cost is at least num / den
 abbrev pub BoundsCost : Program → List ℕ → ℤ → ℤ → Type 0
-BoundsCost p ms num den = (whole : List ℕ) (d : ℕ) → MeetsRest p whole d → pos 0 ≤ℤ weighted ms p.rows whole d → (num *ℤ pos d) ≤ℤ (pos (cost_of p.costs whole) *ℤ den)
+BoundsCost p ms num den =
+    (whole : List ℕ) (d : ℕ) → MeetsRest p whole d → pos 0 ≤ℤ weighted ms p.rows whole d →
+    (num *ℤ pos d) ≤ℤ (pos (cost_of p.costs whole) *ℤ den)
 
 -- the sum is always negative
 abbrev pub RulesOut : Program → List ℕ → Type 0

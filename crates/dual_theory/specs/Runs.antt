@@ -42,4 +42,6 @@ NoneTwice p = (j k : ℕ) → j < k → GoesOn (run_of p j) → run_of p j ≢ r
 
 -- the columns of all nonbasic variables stay lexicographically positive
 abbrev pub ColumnsPositive : Program → Type 0
-ColumnsPositive p = (k j : ℕ) → j < (run_of p k).variables → IsNonbasic (tableau (run_of p k)) j → LexPositive (value_count (run_of p k)) 0 (column (run_of p k) j)
+ColumnsPositive p =
+    (k j : ℕ) → j < (run_of p k).variables → IsNonbasic (tableau (run_of p k)) j →
+    LexPositive (value_count (run_of p k)) 0 (column (run_of p k) j)

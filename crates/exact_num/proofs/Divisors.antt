@@ -172,7 +172,3 @@ gauss a b c one h =
 -- in lowest terms the denominator divides that of every equal fraction
 pub lowest : (num den p e : ℕ) → IsGcd den num 1 → p * den ≡ num * e → den ∣ e
 lowest num den p e one same = gauss den num e one (subst (λ (n : ℕ). den ∣ n) (same ∙ omega arith) (dvd-mul_left den p))
-
--- the least common multiple
-abbrev pub lcm_of : ℕ → ℕ → ℕ
-lcm_of a b = a * (b / gcd_of a b)

@@ -1,11 +1,11 @@
 //! Exact tools on whole numbers and fractions.
 //!
-//! It promises greatest common divisors, quotients that are rounded up, rows divided by their greatest common divisor, sums
-//! of two products, and fractions in lowest terms with their order: each exact over the whole range that its condition names.
-//! No call takes memory or refuses. It stands on nothing.
+//! It promises greatest common divisors, quotients that are rounded up, rows divided by their greatest common divisor,
+//! sums of two products, and fractions in lowest terms with their order: each exact over the whole range that its
+//! condition names. No call takes memory or refuses. It stands on nothing.
 #![tactic(auto)]
 
-ghost use Rattle.std.specs.Prelude.{◌≡◌, ℕ, ℤ, pos, ◌<◌, ◌^◌, ◌*ℤ◌, ◌-ℤ◌, ◌<ℤ◌, ◌≤ℤ◌, ◌/◌, unsigned_abs, map};
+ghost use Rattle.std.specs.Prelude.{◌≡◌, ℤ, pos, ◌<◌, ◌^◌, ◌*ℤ◌, ◌-ℤ◌, ◌<ℤ◌, ◌≤ℤ◌, ◌/◌, unsigned_abs, map};
 ghost use Rattle.std.specs.Int.{IsGcd};
 ghost use Rattle.std.specs.Int.RustNames.{int_div};
 ghost use Rattle.std.specs.List.{All};

@@ -8,10 +8,10 @@ use Rattle.std.proofs.lemmas.Bool.Decides.{nat_tests}
 use Rattle.std.proofs.lemmas.List.Folds.{find-append}
 use Rattle.row_program.specs.Forms.{Table}
 use Rattle.row_program.specs.declared.program.Program.{Program}
-use Rattle.dual_theory.specs.Ends.{lcm_of, lowest_den, common_den, whole_numbers, large_in_point, point_whole}
+use Rattle.dual_theory.specs.Ends.{is_large, lcm_of, lowest_den, common_den, whole_numbers, large_in_point, point_whole}
 use Rattle.lex_dual.specs.declared.solved.SolveFault.{SolveFault}
 use Rattle.lex_dual.specs.declared.solved.SolveFault.TheVariants.{Wide, Memory}
-use Rattle.lex_dual.specs.Faults.{is_large, IfWide}
+use Rattle.lex_dual.specs.Faults.{IfWide}
 
 pub large : (x : ℕ) → 2 ^ 63 ≤ x → is_large x ≡ true
 large x h = grind (arith, nat_tests)

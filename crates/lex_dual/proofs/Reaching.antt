@@ -5,18 +5,20 @@ use Rattle.std.proofs.lemmas.Bool.{cases_eq}
 use Rattle.std.proofs.lemmas.List.{get_or_default, length-map}
 use Rattle.std.proofs.lemmas.List.FromFn.{length-map-range_with_len}
 use Rattle.row_program.specs.declared.program.Program.{Program}
-use Rattle.row_program.specs.Forms.{Table, entry, tableau, first_form, next_form, first_large_of, variable_count, basic_of, IsNonbasic}
+use Rattle.row_program.specs.Points.{IsPoint, IsLeastCost, IsLeastPoint}
+use Rattle.row_program.specs.Forms.{Table, entry, right_side, tableau, first_form, next_form, first_large_of, variable_count, basic_of, IsNonbasic}
 use Rattle.row_program.specs.Method.{leaving, entering, run_of, step, IsBest, IsNever, IsWide}
 use Rattle.pivot_form.specs.Invariant.{IsForm, IsEquation}
 use Rattle.pivot_form.proofs.Equations.{small_rows_from_none}
-use Rattle.dual_theory.specs.Values.{IsRun}
-use Rattle.dual_theory.specs.Ends.{IsWideSize, large_in_point}
-use Rattle.dual_theory.specs.Multipliers.{multipliers_of, slack_sizes, divisor_of}
+use Rattle.dual_theory.proofs.FormValues.{IsRun}
+use Rattle.dual_theory.specs.Ends.{IsWideSize, large_in_point, point_whole, point_den}
+use Rattle.dual_theory.specs.Multipliers.{multipliers_of, slack_sizes, divisor_of, BoundsCost, RulesOut}
 use Rattle.dual_theory.proofs.Wide.{not_wide_best, not_wide_never, later_narrow}
-use Rattle.dual_theory.specs.Measures.{measure}
+use Rattle.dual_theory.proofs.Measures.{measure}
 use Rattle.dual_theory.proofs.Runs.{run_kept, value_count_is, leaving_not_cost}
 use Rattle.dual_theory.proofs.Chosen.{leaving_row, entering_column, entering_negative, entering_free, step_is_next, step_stays_best}
 use Rattle.dual_theory.proofs.Falling.{measure_falls}
+use Rattle.dual_theory.proofs.CallerLemmas.{IsLeastCost_at_best, IsLeastPoint_at_best, BoundsCost_at_best, no_point_at_never, RulesOut_at_never}
 use Rattle.lex_dual.specs.Choices.{places_of}
 use Rattle.lex_dual.specs.Reached.{IsReached}
 use Rattle.lex_dual.proofs.Tables.{length-places_of}
@@ -55,12 +57,34 @@ module _ (p : Program) (t : Table) (reached : IsReached p t) where
       let there : IsBest (run_of p reached.pivots) = subst IsBest reached.is best in
       inr (reached.pivots, there, later_narrow p reached.pivots (step_stays_best (run_of p reached.pivots) there) reached.narrow, sym (ap (large_in_point p) reached.is) ∙ some)
 
+  -- ---- what the last form says
+  best_run : IsBest t → IsBest (run_of p reached.pivots)
+  best_run best = subst IsBest reached.is best
+
+  pub least_cost : IsBest t → IsLeastCost p (right_side t 0) (entry t 0 0)
+  least_cost best = subst (λ (u : Table). IsLeastCost p (right_side u 0) (entry u 0 0)) (sym reached.is) (IsLeastCost_at_best p reached.pivots (best_run best))
+
+  pub least_point : IsBest t → IsLeastPoint p (point_whole p t) (point_den p t)
+  least_point best = subst (λ (u : Table). IsLeastPoint p (point_whole p u) (point_den p u)) (sym reached.is) (IsLeastPoint_at_best p reached.pivots (best_run best))
+
+  pub bounds_cost : IsBest t → BoundsCost p (multipliers_of p t 0) (right_side t 0) (entry t 0 0)
+  bounds_cost best = subst (λ (u : Table). BoundsCost p (multipliers_of p u 0) (right_side u 0) (entry u 0 0)) (sym reached.is) (BoundsCost_at_best p reached.pivots (best_run best))
+
   pub not_wide_at_best : IsBest t → large_in_point p t ≡ None → IsWide p → ⊥
   not_wide_at_best best none = not_wide_best p reached.pivots (subst IsBest reached.is best) reached.narrow (sym (ap (large_in_point p) reached.is) ∙ none)
 
   module _ (r : ℕ) (leaves : leaving t ≡ Some r) where
     pub not_wide_at_never : entering t r ≡ None → IsWide p → ⊥
     not_wide_at_never none = not_wide_never p reached.pivots (subst IsNever reached.is (r, leaves, none)) reached.narrow
+
+    abbrev never_run : entering t r ≡ None → IsNever (run_of p reached.pivots)
+    never_run none = (r, subst (λ (u : Table). leaving u ≡ Some r) reached.is leaves, subst (λ (u : Table). entering u r ≡ None) reached.is none)
+
+    pub no_point : entering t r ≡ None → (whole : List ℕ) (den : ℕ) → IsPoint p whole den → ⊥
+    no_point none = no_point_at_never p reached.pivots (never_run none)
+
+    pub rules_out : entering t r ≡ None → RulesOut p (multipliers_of p t r)
+    rules_out none = subst (λ (u : Table). RulesOut p (multipliers_of p u r)) (sym reached.is) (RulesOut_at_never p reached.pivots (never_run none))
 
     pub leaves_within : r < length t.rows
     leaves_within = let run = reached_run in leaving_row t r run.shape.basics leaves

@@ -31,6 +31,9 @@ HasNoPoint p = (whole : List ℕ) (den : ℕ) → IsPoint p whole den → ⊥
 abbrev pub IsReadAtBest : Program → List ℕ → Type 0
 IsReadAtBest p multipliers = (k : ℕ) × IsBest (run_of p k) × (multipliers ≡ multipliers_of p (run_of p k) 0)
 
--- the multipliers that the equation of the first negative basic variable shows in the method's last form, where it has no candidate
+-- the multipliers that the equation of the first negative basic variable shows in the method's last form, where it has
+-- no candidate
 abbrev pub IsReadAtNever : Program → List ℕ → Type 0
-IsReadAtNever p multipliers = (k : ℕ) × (row : ℕ) × (leaving (run_of p k) ≡ Some row) × (entering (run_of p k) row ≡ None) × (multipliers ≡ multipliers_of p (run_of p k) row)
+IsReadAtNever p multipliers =
+    (k : ℕ) × (row : ℕ) × (leaving (run_of p k) ≡ Some row) × (entering (run_of p k) row ≡ None)
+    × (multipliers ≡ multipliers_of p (run_of p k) row)

@@ -1,4 +1,5 @@
--- The table of rows, and the choices as they are made, one row or one column at a time.
+-- The table of rows, and the choices as they are made, one row or one column at a time: what the calls inside the crate say to
+-- each other. No promise to a caller rests on these.
 use Rattle.std.specs.Prelude.{ℕ, pos, ◌<◌, ◌≤◌, ◌<ℤ◌, ◌≤ℤ◌, List, map, Bool, if◌then◌else◌, Option, Some, None}
 use Rattle.std.specs.List.{range_with_len}
 use Rattle.row_program.specs.Forms.{Table, right_side, basic_of}
@@ -11,7 +12,9 @@ places_of t = map (row_of_basic t) (range_with_len 0 (value_count t))
 -- of the first n rows, that of the first negative basic variable
 abbrev pub IsFirstNegative : Table → ℕ → Option ℕ → Type 0
 IsFirstNegative t n None = (i : ℕ) → i < n → pos 0 ≤ℤ right_side t i
-IsFirstNegative t n (Some b) = (b < n) × (right_side t b <ℤ pos 0) × ((i : ℕ) → i < n → right_side t i <ℤ pos 0 → basic_of t b ≤ basic_of t i)
+IsFirstNegative t n (Some b) =
+    (b < n) × (right_side t b <ℤ pos 0)
+    × ((i : ℕ) → i < n → right_side t i <ℤ pos 0 → basic_of t b ≤ basic_of t i)
 
 -- the candidate, or the best one so far where the candidate doesn't come before it
 abbrev pub lesser_of : (ℕ → ℕ → Bool) → Option ℕ → ℕ → ℕ

@@ -1,4 +1,5 @@
--- A form that the method reaches by forms without large entries.
+-- A form that the method reaches by forms without large entries: what the calls inside the crate say to each other. No promise
+-- to a caller rests on it.
 use Rattle.std.specs.Prelude.{ℕ, ◌≡◌, ◌≤◌, None}
 use Rattle.row_program.specs.Forms.{Table, first_large_of}
 use Rattle.row_program.specs.Method.{run_of}

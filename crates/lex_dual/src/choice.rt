@@ -1,12 +1,12 @@
 // What leaves and what enters.
-ghost use Rattle.std.specs.Prelude.{◌≡◌, ◌<◌, ◌^◌, ◌+◌, ℕ, ℤ, pos, ◌<ℤ◌, length, unsigned_abs, IfSome};
+ghost use Rattle.std.specs.Prelude.{◌≡◌, ◌<◌, ◌+◌, ℤ, pos, ◌<ℤ◌, length, unsigned_abs, IfSome};
 ghost use lib.IntN.{neg_ℤ};
 ghost use Rattle.row_program.specs.Forms.{entry};
 ghost use Rattle.row_program.specs.Method.{leaving, entering, comes_before, column, difference};
 ghost use Rattle.pivot_form.specs.Invariant.{IsForm};
 ghost use Rattle.lex_dual.specs.Choices.{places_of, IsFirstNegative, lesser_of};
 
-use exact_num::cross;
+use exact_num::{WIDE, cross};
 use pivot_form::Form;
 
 /// The row of the first negative basic variable, in the order of variables: one pass over the rows.
@@ -22,7 +22,8 @@ pub(crate) fn leaving(form: &Form) -> Option<usize>
     found
 }
 
-/// The row itself, where it is negative and its variable comes before that of the row found so far, and else the latter.
+/// The row itself, where it is negative and its variable comes before that of the row found so far, and else the
+/// latter.
 fn earlier(form: &Form, found: Option<usize>, row: usize) -> Option<usize>
     requires row { row < length form.now.rows }
     requires found { IsFirstNegative form.now row found }
@@ -96,8 +97,8 @@ fn comes_before(form: &Form, places: &[Option<usize>], row: usize, j: usize, k: 
     false
 }
 
-/// How far the coefficient of the variable v in j is above that in k, each divided by its variable's coefficient in the row,
-/// times both of the latter.
+/// How far the coefficient of the variable v in j is above that in k, each divided by its variable's coefficient in the
+/// row, times both of the latter.
 fn difference_at(
     form: &Form,
     places: &[Option<usize>],
@@ -112,7 +113,8 @@ fn difference_at(
     requires j { j < form.now.variables }
     requires k { k < form.now.variables }
     requires v { v < length places.now }
-    ensures { result ≡ difference (column form.now j) (neg_ℤ (entry form.now row j)) (column form.now k) (neg_ℤ (entry form.now row k)) v }
+    ensures { result ≡ difference (column form.now j) (neg_ℤ (entry form.now row j))
+        (column form.now k) (neg_ℤ (entry form.now row k)) v }
 {
     let left = coefficient(form, places, j, v);
     let right = coefficient(form, places, k, v);
@@ -131,7 +133,7 @@ fn coefficient(form: &Form, places: &[Option<usize>], j: usize, v: usize) -> i64
     requires j { j < form.now.variables }
     requires v { v < length places.now }
     ensures value { result ≡ column form.now j v }
-    ensures small { unsigned_abs result < 2 ^ 63 }
+    ensures small { unsigned_abs result < WIDE }
 {
     match places[v] {
         Some(row) => opposite(form.entry(row, j)),
@@ -142,7 +144,7 @@ fn coefficient(form: &Form, places: &[Option<usize>], j: usize, v: usize) -> i64
 
 /// The number with the other sign.
 fn opposite(x: i64) -> i64
-    requires { unsigned_abs x < 2 ^ 63 }
+    requires { unsigned_abs x < WIDE }
     ensures { result ≡ neg_ℤ x }
 {
     -x

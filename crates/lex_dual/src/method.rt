@@ -1,5 +1,5 @@
 // The method from the first form to the answer.
-ghost use Rattle.std.specs.Prelude.{◌≡◌, ◌<◌, ℕ, length, IfOk, IfErr, OnOk, Some, None};
+ghost use Rattle.std.specs.Prelude.{◌≡◌, ◌<◌, length, IfOk, IfErr, OnOk, Some, None};
 ghost use Rattle.row_program.specs.Points.{IsLeastCost, IsLeastPoint};
 ghost use Rattle.row_program.specs.Method.{leaving, entering, IsBest, IsWide};
 ghost use Rattle.dual_theory.specs.Runs.{Rises, NoneTwice, ColumnsPositive};
@@ -20,19 +20,20 @@ use pivot_form::Form;
 use row_program::Program;
 use std::alloc::Global;
 
-/// The least cost over all points that meet the rows, with the lexicographically least point of that cost; or that no point
-/// meets them. The multipliers, one a kept row, show it for all points that meet the other rows: where the sum of multipliers
-/// times kept rows isn't negative, the cost is at least the value; where there is no point, the sum is always negative.
-/// They are the sizes of the entries of these rows' slacks in one equation of the method's last form, divided by their greatest
-/// common divisor: in that of the cost, or, where there is no point, of the first negative variable.
+/// The least cost over all points that meet the rows, with the lexicographically least point of that cost; or that no
+/// point meets them. The multipliers, one a kept row, show it for all points that meet the other rows: where the sum of
+/// multipliers times kept rows isn't negative, the cost is at least the value; where there is no point, the sum is always
+/// negative. They are the sizes of the entries of these rows' slacks in one equation of the method's last form, divided by
+/// their greatest common divisor: in that of the cost, or, where there is no point, of the first negative variable.
 ///
-/// `Wide` comes where a form on the way has an entry or a right side of 63 bits or more, or at the end the point such a number.
-/// It names the first of these: in the first such form, row by row, each right side after its columns; else the first of the
-/// common denominators as they grow, variable by variable; else the first of the numbers.
+/// `Wide` comes where a form on the way has an entry or a right side of 63 bits or more, or at the end the point such a
+/// number. It names the first of these: in the first such form, row by row, each right side after its columns; else the
+/// first of the common denominators as they grow, variable by variable; else the first of the numbers.
 pub fn solve(alloc: Global, program: &Program) -> Result<Solved, SolveFault>
     ensures least_cost { IfOk result (OnBest (λ value _ _. IsLeastCost program.now value.num value.den)) }
     ensures least_point { IfOk result (OnBest (λ _ _ point. IsLeastPoint program.now point.whole point.den)) }
-    ensures cost_shown { IfOk result (OnBest (λ value multipliers _. BoundsCost program.now multipliers value.num value.den)) }
+    ensures cost_shown { IfOk result (OnBest (λ value multipliers _.
+        BoundsCost program.now multipliers value.num value.den)) }
     ensures no_point { IfOk result (OnNever (λ _. HasNoPoint program.now)) }
     ensures none_shown { IfOk result (OnNever (λ multipliers. RulesOut program.now multipliers)) }
     ensures best_multipliers { IfOk result (OnBest (λ _ multipliers _. IsReadAtBest program.now multipliers)) }
@@ -70,7 +71,8 @@ fn best(
     requires places { places.now ≡ places_of form.now }
     ensures cost { IfOk result (OnBest (λ value _ _. IsLeastCost program.now value.num value.den)) }
     ensures point { IfOk result (OnBest (λ _ _ point. IsLeastPoint program.now point.whole point.den)) }
-    ensures shown { IfOk result (OnBest (λ value multipliers _. BoundsCost program.now multipliers value.num value.den)) }
+    ensures shown { IfOk result (OnBest (λ value multipliers _.
+        BoundsCost program.now multipliers value.num value.den)) }
     ensures read { IfOk result (OnBest (λ _ multipliers _. IsReadAtBest program.now multipliers)) }
     ensures is_best { IfOk result (OnNever (λ _. ⊥)) }
     ensures each_row { IfOk result (λ solved. length (multipliers_in solved) ≡ program.now.kept) }

@@ -1,11 +1,11 @@
 // The multipliers of the kept rows.
-ghost use Rattle.std.specs.Prelude.{◌≡◌, ◌<◌, ◌≤◌, ◌^◌, ◌+◌, ◌/◌, ℕ, length, map, All, IfOk, unsigned_abs};
+ghost use Rattle.std.specs.Prelude.{◌≡◌, ◌<◌, ◌+◌, ◌/◌, length, map, All, IfOk, unsigned_abs};
 ghost use Rattle.row_program.specs.Forms.{entry, variable_count};
 ghost use Rattle.pivot_form.specs.Invariant.{IsForm};
 ghost use Rattle.dual_theory.specs.Multipliers.{multipliers_of, slack_sizes, lowest, divisor_of};
 
 use bound_tree::Multipliers;
-use exact_num::gcd;
+use exact_num::{WIDE, gcd};
 use mov_base::Memory;
 use pivot_form::Form;
 use row_program::Program;
@@ -34,7 +34,7 @@ fn sizes(alloc: Global, program: &Program, form: &Form, row: usize) -> Result<Ve
     requires variables { form.now.variables ≡ variable_count program.now }
     requires row { row < length form.now.rows }
     ensures value { IfOk result (λ numbers. numbers.items ≡ slack_sizes program.now form.now row) }
-    ensures small { IfOk result (λ numbers. All (λ x. x < 2 ^ 63) numbers.items) }
+    ensures small { IfOk result (λ numbers. All (λ x. x < WIDE) numbers.items) }
 {
     let variables = program.costs.len();
     let mut numbers = Vec::with_capacity(alloc, program.kept)?;
@@ -50,16 +50,16 @@ fn size_at(form: &Form, row: usize, column: usize) -> u64
     requires row { row < length form.now.rows }
     requires column { column < form.now.variables }
     ensures value { result ≡ unsigned_abs (entry form.now row column) }
-    ensures small { result < 2 ^ 63 }
+    ensures small { result < WIDE }
 {
     form.entry(row, column).unsigned_abs()
 }
 
 /// Divides numbers by their greatest common divisor. Zeros stay.
 fn reduce(numbers: &mut [u64])
-    requires { All (λ x. x < 2 ^ 63) numbers.old }
+    requires { All (λ x. x < WIDE) numbers.old }
     ensures value { numbers.new ≡ lowest numbers.old }
-    ensures small { All (λ x. x < 2 ^ 63) numbers.new }
+    ensures small { All (λ x. x < WIDE) numbers.new }
 {
     let divisor = divisor(numbers);
     if divisor > 0 {

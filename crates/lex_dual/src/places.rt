@@ -1,5 +1,5 @@
 // The rows of the variables that have a value: the cost and those of the program.
-ghost use Rattle.std.specs.Prelude.{◌≡◌, ◌<◌, ℕ, length, IfOk};
+ghost use Rattle.std.specs.Prelude.{◌≡◌, ◌<◌, length, IfOk};
 ghost use Rattle.row_program.specs.Forms.{tableau, first_form, next_form, IsNonbasic};
 ghost use Rattle.pivot_form.specs.Invariant.{IsForm};
 ghost use Rattle.lex_dual.specs.Choices.{places_of};
@@ -21,7 +21,8 @@ pub(crate) fn first_places(alloc: Global, program: &Program) -> Result<Vec<Optio
     Ok(places)
 }
 
-/// The rows after a pivot at the row and the column: the basic variable of the row leaves, and that of the column enters.
+/// The rows after a pivot at the row and the column: the basic variable of the row leaves, and that of the column
+/// enters.
 pub(crate) fn exchange(places: &mut [Option<usize>], form: &Form, row: usize, column: usize)
     requires form { IsForm form.now }
     requires places { places.old ≡ places_of form.now }

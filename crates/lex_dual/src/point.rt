@@ -1,15 +1,14 @@
 // The point of a form without negative values.
-ghost use Rattle.std.specs.Prelude.{◌≡◌, ◌<◌, ◌≤◌, ◌^◌, ◌+◌, ◌*◌, ◌/◌, ◌-◌, ℕ, length, map, find, All, IfOk, OnOk, MatchResult, Some, None, unsigned_abs};
+ghost use Rattle.std.specs.Prelude.{◌≡◌, ◌<◌, ◌^◌, ◌+◌, ◌*◌, ◌/◌, ◌-◌, length, map, find, All, IfOk, OnOk, MatchResult, Some, None, unsigned_abs};
 ghost use Rattle.std.specs.List.{range_with_len};
-ghost use Rattle.exact_num.specs.Divisors.{gcd_of};
 ghost use Rattle.pivot_form.specs.Invariant.{IsForm};
 ghost use Rattle.dual_theory.specs.Runs.{value_num, value_den};
-ghost use Rattle.dual_theory.specs.Ends.{lcm_of, lowest_by, lowest_num, lowest_den, common_den, whole_number, whole_numbers, large_in_point, point_whole, point_den};
+ghost use Rattle.dual_theory.specs.Ends.{lcm_of, lowest_num, lowest_den, common_den, whole_number, whole_numbers, is_large, large_in_point, point_whole, point_den};
 ghost use Rattle.lex_dual.specs.Choices.{places_of};
-ghost use Rattle.lex_dual.specs.Faults.{IfWide, is_large};
+ghost use Rattle.lex_dual.specs.Faults.{IfWide};
 
 use crate::SolveFault;
-use exact_num::gcd;
+use exact_num::{WIDE, gcd};
 use mov_base::List;
 use pivot_form::{Form, Wide};
 use row_program::{NumberList, Point, Program};
@@ -29,8 +28,8 @@ fn value_at(form: &Form, places: &[Option<usize>], variable: usize) -> Fraction
     requires variable { variable + 1 < length places.now }
     ensures num { result.num ≡ unsigned_abs (value_num form.now (variable + 1)) }
     ensures den { result.den ≡ unsigned_abs (value_den form.now (variable + 1)) }
-    ensures small_num { result.num < 2 ^ 63 }
-    ensures small_den { result.den < 2 ^ 63 }
+    ensures small_num { result.num < WIDE }
+    ensures small_den { result.den < WIDE }
     ensures positive { 0 < result.den }
 {
     match places[variable + 1] {
@@ -49,8 +48,8 @@ fn lowest_at(form: &Form, places: &[Option<usize>], variable: usize) -> Fraction
     requires variable { variable + 1 < length places.now }
     ensures num { result.num ≡ lowest_num form.now variable }
     ensures den { result.den ≡ lowest_den form.now variable }
-    ensures small_num { result.num < 2 ^ 63 }
-    ensures small_den { result.den < 2 ^ 63 }
+    ensures small_num { result.num < WIDE }
+    ensures small_den { result.den < WIDE }
     ensures positive { 0 < result.den }
 {
     let value = value_at(form, places, variable);
@@ -63,8 +62,8 @@ fn lowest_at(form: &Form, places: &[Option<usize>], variable: usize) -> Fraction
 
 /// The least common multiple of two numbers of 63 bits.
 fn lcm(a: u64, b: u64) -> u128
-    requires small_a { a < 2 ^ 63 }
-    requires small_b { b < 2 ^ 63 }
+    requires small_a { a < WIDE }
+    requires small_b { b < WIDE }
     requires positive { 0 < b }
     ensures value { result ≡ lcm_of a b }
     ensures small { result < 2 ^ 126 }
@@ -73,15 +72,18 @@ fn lcm(a: u64, b: u64) -> u128
     a as u128 * (b as u128 / gcd(a as u128, b as u128))
 }
 
-/// The least common denominator of the program's variables, or the first multiple on the way to it that has 63 bits or more.
+/// The least common denominator of the program's variables, or the first multiple on the way to it that has 63 bits or
+/// more.
 fn common_den(form: &Form, places: &[Option<usize>]) -> Result<u64, Wide>
     requires form { IsForm form.now }
     requires places { places.now ≡ places_of form.now }
     requires cost { 0 < length places.now }
     ensures value { MatchResult result (λ den. den ≡ common_den form.now (length places.now - 1))
-        (λ wide. find is_large (map (common_den form.now) (range_with_len 1 (length places.now - 1))) ≡ Some wide.size) }
-    ensures none { OnOk result (find is_large (map (common_den form.now) (range_with_len 1 (length places.now - 1))) ≡ None) }
-    ensures small { IfOk result (λ den. den < 2 ^ 63) }
+        (λ wide. find is_large (map (common_den form.now) (range_with_len 1 (length places.now - 1)))
+        ≡ Some wide.size) }
+    ensures none { OnOk result
+        (find is_large (map (common_den form.now) (range_with_len 1 (length places.now - 1))) ≡ None) }
+    ensures small { IfOk result (λ den. den < WIDE) }
     ensures positive { IfOk result (λ den. 0 < den) }
 {
     let mut den = 1;
@@ -97,15 +99,16 @@ fn common_den(form: &Form, places: &[Option<usize>]) -> Result<u64, Wide>
 
 /// The value times a multiple of its denominator.
 fn scaled(value: Fraction, den: u64) -> u128
-    requires small_num { value.num < 2 ^ 63 }
-    requires small_den { den < 2 ^ 63 }
+    requires small_num { value.num < WIDE }
+    requires small_den { den < WIDE }
     requires positive { 0 < value.den }
     ensures { result ≡ value.num * (den / value.den) }
 {
     value.num as u128 * (den / value.den) as u128
 }
 
-/// The values of the program's variables times their least common denominator, or the first of them that has 63 bits or more.
+/// The values of the program's variables times their least common denominator, or the first of them that has 63 bits or
+/// more.
 fn numbers(
     alloc: Global,
     form: &Form,
@@ -116,11 +119,11 @@ fn numbers(
     requires places { places.now ≡ places_of form.now }
     requires cost { 0 < length places.now }
     requires den { den ≡ common_den form.now (length places.now - 1) }
-    requires small { den < 2 ^ 63 }
+    requires small { den < WIDE }
     ensures value { MatchResult result (λ whole. whole ≡ whole_numbers form.now (length places.now - 1))
         (IfWide (λ size. find is_large (whole_numbers form.now (length places.now - 1)) ≡ Some size)) }
     ensures none { OnOk result (find is_large (whole_numbers form.now (length places.now - 1)) ≡ None) }
-    ensures small { IfOk result (λ whole. All (λ x. x < 2 ^ 63) whole) }
+    ensures small { IfOk result (λ whole. All (λ x. x < WIDE) whole) }
 {
     let mut whole = List::new(alloc);
     for variable in 0..places.len() - 1 {

@@ -11,7 +11,8 @@ use row_program::Point;
 /// What the method finds.
 #[derive(Debug, Drop)]
 pub enum Solved {
-    /// The least cost, the lexicographically least point of that cost, and multipliers that show that no point costs less.
+    /// The least cost, the lexicographically least point of that cost, and multipliers that show that no point costs
+    /// less.
     Best {
         /// The least cost.
         value: Ratio,

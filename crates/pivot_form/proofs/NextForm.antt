@@ -12,7 +12,7 @@ use Rattle.exact_num.specs.Divisors.{row_gcd, primitive, IsPrimitive}
 use Rattle.exact_num.proofs.Divisors.{primitive_entry, primitive_lowest, zero_fold}
 use Rattle.exact_num.proofs.Ring.{leaf, times, same}
 use Rattle.row_program.specs.Forms.{Table, row_of, entry, basic_of, tableau, combination, eliminated, turned, next_row, map_from, next_form, first_large, first_large_of, Holds, IsSolved, IsReduced}
-use Rattle.pivot_form.specs.Invariant.{IsEquation, IsShaped, IsForm, row_lists}
+use Rattle.pivot_form.specs.Invariant.{IsEquation, IsForm, row_lists}
 use Rattle.pivot_form.proofs.Sums.{positive_product, zero_times}
 use Rattle.pivot_form.proofs.Equations.{length-combination, get_or-combination, turned_by, IsTurned, length-map_from, get_or-map_from, small_rows_from_none, all_at, row_lists-get, row_lists-set, length-row_lists, map_front_from, get_or-map_front_from, map_front_from_more, map_from_drop, rows_past, rows_here}
 use Rattle.pivot_form.proofs.Pivots.{IsPivot, next_holds, before_holds, next_solved}
@@ -36,6 +36,12 @@ new_lead t r c h = get_or-map_from (next_row r c (lead_of t r c)) 0 t.rows r r [
 
 pub new_row : (t : Table) (r c i : ℕ) → i < length t.rows → i ≢ r → row_of (next_form t r c) i ≡ primitive (mixed t r c i)
 new_row t r c i h apart = get_or-map_from (next_row r c (lead_of t r c)) 0 t.rows i i [] h (omega arith) ∙ next_row_off r c (lead_of t r c) i (row_of t i) apart
+
+-- a form whose entries have any size: an entry a variable and the right side, and one basic variable an equation
+pub record IsShaped (t : Table) : Type 0 where
+  pub widths : (i : ℕ) → i < length t.rows → length (row_of t i) ≡ t.variables + 1
+  pub basics : length t.basis ≡ length t.rows
+  pub solved : IsSolved (tableau t)
 
 pub shape_of : (t : Table) → IsForm t → IsShaped t
 shape_of t form = record {

@@ -1,5 +1,5 @@
 // The equations of a program's first form.
-ghost use Rattle.std.specs.Prelude.{◌≡◌, ◌≢◌, ◌<◌, ◌≤◌, ◌+◌, ◌-◌, ◌^◌, ℕ, ℤ, pos, ◌⊎◌, unsigned_abs, length, IfOk, map, slice_index_or, replicate};
+ghost use Rattle.std.specs.Prelude.{◌≡◌, ◌≢◌, ◌<◌, ◌≤◌, ◌+◌, ◌-◌, ℕ, ℤ, pos, unsigned_abs, length, IfOk, map, slice_index_or};
 ghost use lib.IntN.{neg_ℤ};
 ghost use Rattle.std.specs.List.{All, AllPairs, range_with_len};
 ghost use Rattle.row_program.specs.Bounds.{IsRow};
@@ -7,7 +7,7 @@ ghost use Rattle.row_program.specs.Forms.{coefficient, cost_entry, slack_entry, 
 
 use crate::rows::opposite;
 use mov_base::Memory;
-use row_program::{Row, Term};
+use row_program::{MOST_ROWS, MOST_VARIABLES, Row, TERM_LIMIT, Term};
 use std::alloc::Global;
 
 /// So many zeros.
@@ -56,10 +56,11 @@ pub(crate) fn slack_row(
     number: usize,
 ) -> Result<Vec<i64>, Memory>
     requires good { IsRow variables row.now }
-    requires few_variables { variables ≤ 2 ^ 20 }
-    requires few_rows { rows ≤ 2 ^ 20 }
+    requires few_variables { variables ≤ MOST_VARIABLES }
+    requires few_rows { rows ≤ MOST_ROWS }
     requires within { number < rows }
-    ensures { IfOk result (λ made. made.items ≡ map (slack_entry variables rows number row.now) (range_with_len 0 (2 + variables + rows))) }
+    ensures { IfOk result (λ made.
+        made.items ≡ map (slack_entry variables rows number row.now) (range_with_len 0 (2 + variables + rows))) }
 {
     let mut made = zeros(alloc, 2 + variables + rows)?;
     write_row(made.as_mut_slice(), row, variables, rows, number);
@@ -69,8 +70,8 @@ pub(crate) fn slack_row(
 /// Writes the equation of the row over zeros.
 fn write_row(made: &mut [i64], row: &Row, variables: usize, rows: usize, number: usize)
     requires good { IsRow variables row.now }
-    requires few_variables { variables ≤ 2 ^ 20 }
-    requires few_rows { rows ≤ 2 ^ 20 }
+    requires few_variables { variables ≤ MOST_VARIABLES }
+    requires few_rows { rows ≤ MOST_ROWS }
     requires within { number < rows }
     requires wide { length made.old ≡ 2 + variables + rows }
     requires zeros { (k : ℕ) → slice_index_or made.old k (pos 0) ≡ pos 0 }
@@ -84,11 +85,12 @@ fn write_row(made: &mut [i64], row: &Row, variables: usize, rows: usize, number:
 /// Writes the coefficients of the variables, turned, after the first entry. They are 0 before.
 fn write_terms(row: &mut [i64], terms: &[Term], variables: usize)
     requires wide { variables < length row.old }
-    requires small_terms { All (λ t. unsigned_abs t.times < 2 ^ 31) terms.now }
+    requires small_terms { All (λ t. unsigned_abs t.times < TERM_LIMIT) terms.now }
     requires within { All (λ t. t.variable < variables) terms.now }
     requires one_each { AllPairs (λ s t. s.variable ≢ t.variable) terms.now }
     requires zeros { (v : ℕ) → v < variables → slice_index_or row.old (v + 1) (pos 0) ≡ pos 0 }
-    ensures written { (v : ℕ) → v < variables → slice_index_or row.new (v + 1) (pos 0) ≡ neg_ℤ (coefficient terms.now v) }
+    ensures written { (v : ℕ) → v < variables →
+        slice_index_or row.new (v + 1) (pos 0) ≡ neg_ℤ (coefficient terms.now v) }
     ensures first { slice_index_or row.new 0 (pos 0) ≡ slice_index_or row.old 0 (pos 0) }
     ensures rest { (k : ℕ) → variables < k → slice_index_or row.new k (pos 0) ≡ slice_index_or row.old k (pos 0) }
 {
@@ -103,8 +105,8 @@ pub(crate) fn first_basics(
     variables: usize,
     rows: usize,
 ) -> Result<Vec<usize>, Memory>
-    requires few_variables { variables ≤ 2 ^ 20 }
-    requires few_rows { rows ≤ 2 ^ 20 }
+    requires few_variables { variables ≤ MOST_VARIABLES }
+    requires few_rows { rows ≤ MOST_ROWS }
     ensures { IfOk result (λ basics. basics.items ≡ map (first_basic variables) (range_with_len 0 (rows + 1))) }
 {
     let mut basics = Vec::with_capacity(alloc, rows + 1)?;

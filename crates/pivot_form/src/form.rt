@@ -1,11 +1,12 @@
 // Forms, the first of them, and their pivots.
-ghost use Rattle.std.specs.Prelude.{◌≡◌, ◌≢◌, ◌<◌, ◌≤◌, ◌^◌, ◌+◌, ℕ, ℤ, pos, ◌↔◌, ◌<ℤ◌, unsigned_abs, length, MatchResult, IfOk, OnOk, Some, None, map, slice_index_or, ◌-◌, []};
+ghost use Rattle.std.specs.Prelude.{◌≡◌, ◌≢◌, ◌<◌, ◌+◌, ℕ, ℤ, pos, ◌↔◌, ◌<ℤ◌, unsigned_abs, length, MatchResult, IfOk, OnOk, Some, None, map, slice_index_or, ◌-◌, []};
 ghost use Rattle.std.specs.List.{All, range_with_len};
 ghost use Rattle.row_program.specs.Forms.{entry, right_side, basic_of, tableau, first_form, first_row, next_form, next_row, map_from, first_large_of, Holds, IsNonbasic, IsSolved, IsReduced};
 ghost use Rattle.pivot_form.specs.Invariant.{IsEquation, row_lists};
 
 use crate::first::{cost_row, first_basics, slack_row};
 use crate::rows::{renew, turn};
+use exact_num::WIDE;
 use mov_base::Memory;
 use row_program::Program;
 use std::alloc::Global;
@@ -34,12 +35,14 @@ impl Model for Form {
 
     ghost Value = { Table };
 
-    ghost view = { λ f. record { variables = length f.lead.items - 1; rows = row_lists f.rows.items; basis = f.basics.items } };
+    ghost view = { λ f.
+        record { variables = length f.lead.items - 1; rows = row_lists f.rows.items; basis = f.basics.items } };
 
     ghost invariant = { λ f.
         (0 < length f.lead.items)
         × (length f.scratch.items ≡ length f.lead.items)
-        × IsForm (record { variables = length f.lead.items - 1; rows = row_lists f.rows.items; basis = f.basics.items }) };
+        × IsForm
+        (record { variables = length f.lead.items - 1; rows = row_lists f.rows.items; basis = f.basics.items }) };
 }
 
 impl Form {
@@ -104,17 +107,19 @@ impl Form {
         self.rows[row][self.lead.len() - 1]
     }
 
-    /// The next form: the variable of the column becomes basic in the row. Where an entry of it would be large, the answer is the
-    /// size of the first one, in row order, then column order, a right side after its columns. It takes no memory.
+    /// The next form: the variable of the column becomes basic in the row. Where an entry of it would be large, the answer
+    /// is the size of the first one, in row order, then column order, a right side after its columns. It takes no memory.
     pub fn pivot(mut self, row: usize, column: usize) -> Result<Form, Wide>
         requires row { row < length self.rows }
         requires column { column < self.variables }
         requires not_cost { basic_of self row ≢ 0 }
         requires nonbasic { IsNonbasic (tableau self) column }
         requires nonzero { entry self row column ≢ pos 0 }
-        ensures value { MatchResult result (λ form. form ≡ next_form self row column) (λ e. first_large_of (next_form self row column).rows ≡ Some e.size) }
+        ensures value { MatchResult result (λ form. form ≡ next_form self row column)
+            (λ e. first_large_of (next_form self row column).rows ≡ Some e.size) }
         ensures narrow { OnOk result (first_large_of (next_form self row column).rows ≡ None) }
-        ensures solutions { (y : ℕ → ℤ) (d : ℤ) → Holds (tableau (next_form self row column)) y d ↔ Holds (tableau self) y d }
+        ensures solutions { (y : ℕ → ℤ) (d : ℤ) →
+            Holds (tableau (next_form self row column)) y d ↔ Holds (tableau self) y d }
         ensures solved { IsSolved (tableau (next_form self row column)) }
         ensures reduced { IsReduced (next_form self row column) }
     {
@@ -133,7 +138,8 @@ impl Form {
 
 /// The equations of the first form.
 fn first_rows(alloc: Global, program: &Program) -> Result<Vec<Vec<i64>>, Memory>
-    ensures { IfOk result (λ rows. row_lists rows.items ≡ map (first_row program.now) (range_with_len 0 (length program.now.rows + 1))) }
+    ensures { IfOk result (λ rows.
+        row_lists rows.items ≡ map (first_row program.now) (range_with_len 0 (length program.now.rows + 1))) }
 {
     let variables = program.costs.len();
     let count = program.rows.len();
@@ -155,12 +161,15 @@ fn clear_rows(
 ) -> Result<(), Wide>
     requires within { column + 1 < length lead.now }
     requires same_scratch { length scratch.old ≡ length lead.now }
-    requires equations { (k : ℕ) → k < length rows.old → IsEquation (length lead.now - 1) (slice_index_or (row_lists rows.old) k []) }
-    requires small_lead { All (λ x. unsigned_abs x < 2 ^ 63) lead.now }
+    requires equations { (k : ℕ) → k < length rows.old →
+        IsEquation (length lead.now - 1) (slice_index_or (row_lists rows.old) k []) }
+    requires small_lead { All (λ x. unsigned_abs x < WIDE) lead.now }
     requires positive { pos 0 <ℤ slice_index_or lead.now column (pos 0) }
-    ensures value { MatchResult result (λ _. row_lists rows.new ≡ map_from (next_row place column lead.now) 0 (row_lists rows.old))
+    ensures value { MatchResult result
+        (λ _. row_lists rows.new ≡ map_from (next_row place column lead.now) 0 (row_lists rows.old))
         (λ e. first_large_of (map_from (next_row place column lead.now) 0 (row_lists rows.old)) ≡ Some e.size) }
-    ensures narrow { OnOk result (first_large_of (map_from (next_row place column lead.now) 0 (row_lists rows.old)) ≡ None) }
+    ensures narrow { OnOk result
+        (first_large_of (map_from (next_row place column lead.now) 0 (row_lists rows.old)) ≡ None) }
 {
     for (i, row) in rows.iter_mut().enumerate() {
         renew(row.as_mut_slice(), i == place, lead, column, scratch)?;

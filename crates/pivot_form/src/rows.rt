@@ -1,22 +1,21 @@
 // One equation at a pivot.
-ghost use Rattle.std.specs.Prelude.{◌≡◌, ◌<◌, ◌≤◌, ◌^◌, ℤ, pos, ◌<ℤ◌, ◌≢◌, unsigned_abs, length, MatchResult, Some, None, slice_index_or, if◌then◌else◌, map};
+ghost use Rattle.std.specs.Prelude.{◌≡◌, ◌<◌, ℤ, pos, ◌<ℤ◌, ◌≢◌, unsigned_abs, length, MatchResult, Some, None, slice_index_or, if◌then◌else◌, map};
 ghost use Rattle.std.specs.List.{All};
 ghost use lib.IntN.{neg_ℤ};
 ghost use Rattle.exact_num.specs.Divisors.{IsPrimitive};
 ghost use Rattle.row_program.specs.Forms.{combination, eliminated, first_large, turned};
-ghost use Rattle.pivot_form.specs.Invariant.{IsEquation};
 
 use crate::Wide;
-use exact_num::{Ratio, cross, reduce_row};
+use exact_num::{Ratio, WIDE, cross, reduce_row};
 
 /// Writes p times the row less q times the lead.
 fn combine(out: &mut [i128], p: i64, row: &[i64], q: i64, lead: &[i64])
     requires same_row { length row.now ≡ length out.old }
     requires same_lead { length lead.now ≡ length out.old }
-    requires small_p { unsigned_abs p < 2 ^ 63 }
-    requires small_q { unsigned_abs q < 2 ^ 63 }
-    requires small_row { All (λ x. unsigned_abs x < 2 ^ 63) row.now }
-    requires small_lead { All (λ x. unsigned_abs x < 2 ^ 63) lead.now }
+    requires small_p { unsigned_abs p < WIDE }
+    requires small_q { unsigned_abs q < WIDE }
+    requires small_row { All (λ x. unsigned_abs x < WIDE) row.now }
+    requires small_lead { All (λ x. unsigned_abs x < WIDE) lead.now }
     ensures { out.new ≡ combination p row.now q lead.now }
 {
     for (i, place) in out.iter_mut().enumerate() {
@@ -40,7 +39,7 @@ fn find_large(row: &[i128]) -> Option<u128>
 /// Copies the wide entries, none of which is large.
 fn store(row: &mut [i64], wide: &[i128])
     requires same { length wide.now ≡ length row.old }
-    requires small { All (λ x. unsigned_abs x < 2 ^ 63) wide.now }
+    requires small { All (λ x. unsigned_abs x < WIDE) wide.now }
     ensures { row.new ≡ wide.now }
 {
     for (i, place) in row.iter_mut().enumerate() {
@@ -48,14 +47,14 @@ fn store(row: &mut [i64], wide: &[i128])
     }
 }
 
-/// Writes the row, cleared in the column by the lead and divided by its greatest common divisor. The fraction of the lead that
-/// is taken away is brought to lowest terms first, which makes the products smaller.
+/// Writes the row, cleared in the column by the lead and divided by its greatest common divisor. The fraction of the lead
+/// that is taken away is brought to lowest terms first, which makes the products smaller.
 fn clear(out: &mut [i128], row: &[i64], lead: &[i64], column: usize)
     requires same_row { length row.now ≡ length out.old }
     requires same_lead { length lead.now ≡ length out.old }
     requires within { column < length row.now }
-    requires small_row { All (λ x. unsigned_abs x < 2 ^ 63) row.now }
-    requires small_lead { All (λ x. unsigned_abs x < 2 ^ 63) lead.now }
+    requires small_row { All (λ x. unsigned_abs x < WIDE) row.now }
+    requires small_lead { All (λ x. unsigned_abs x < WIDE) lead.now }
     requires positive { pos 0 <ℤ slice_index_or lead.now column (pos 0) }
     ensures { out.new ≡ eliminated column row.now lead.now }
 {
@@ -69,10 +68,12 @@ fn eliminate(row: &mut [i64], lead: &[i64], column: usize, scratch: &mut [i128])
     requires same_lead { length lead.now ≡ length row.old }
     requires same_scratch { length scratch.old ≡ length row.old }
     requires within { column < length row.old }
-    requires small_row { All (λ x. unsigned_abs x < 2 ^ 63) row.old }
-    requires small_lead { All (λ x. unsigned_abs x < 2 ^ 63) lead.now }
+    requires small_row { All (λ x. unsigned_abs x < WIDE) row.old }
+    requires small_lead { All (λ x. unsigned_abs x < WIDE) lead.now }
     requires positive { pos 0 <ℤ slice_index_or lead.now column (pos 0) }
-    ensures value { MatchResult result (λ _. (row.new ≡ eliminated column row.old lead.now) × (first_large (eliminated column row.old lead.now) ≡ None))
+    ensures value { MatchResult result
+        (λ _. (row.new ≡ eliminated column row.old lead.now)
+        × (first_large (eliminated column row.old lead.now) ≡ None))
         (λ e. first_large (eliminated column row.old lead.now) ≡ Some e.size) }
 {
     clear(scratch, row, lead, column);
@@ -96,11 +97,13 @@ pub(crate) fn renew(
     requires same_lead { length lead.now ≡ length row.old }
     requires same_scratch { length scratch.old ≡ length row.old }
     requires within { column < length row.old }
-    requires small_row { All (λ x. unsigned_abs x < 2 ^ 63) row.old }
-    requires small_lead { All (λ x. unsigned_abs x < 2 ^ 63) lead.now }
+    requires small_row { All (λ x. unsigned_abs x < WIDE) row.old }
+    requires small_lead { All (λ x. unsigned_abs x < WIDE) lead.now }
     requires primitive { IsPrimitive row.old }
     requires positive { pos 0 <ℤ slice_index_or lead.now column (pos 0) }
-    ensures value { MatchResult result (λ _. (row.new ≡ (if at_place then lead.now else eliminated column row.old lead.now)) × (first_large (if at_place then lead.now else eliminated column row.old lead.now) ≡ None))
+    ensures value { MatchResult result
+        (λ _. (row.new ≡ (if at_place then lead.now else eliminated column row.old lead.now))
+        × (first_large (if at_place then lead.now else eliminated column row.old lead.now) ≡ None))
         (λ e. first_large (if at_place then lead.now else eliminated column row.old lead.now) ≡ Some e.size) }
 {
     if at_place {
@@ -117,10 +120,10 @@ pub(crate) fn renew(
 pub(crate) fn turn(lead: &mut [i64], row: &[i64], column: usize)
     requires same { length lead.old ≡ length row.now }
     requires within { column < length row.now }
-    requires small { All (λ x. unsigned_abs x < 2 ^ 63) row.now }
+    requires small { All (λ x. unsigned_abs x < WIDE) row.now }
     requires nonzero { slice_index_or row.now column (pos 0) ≢ pos 0 }
     ensures value { lead.new ≡ turned column row.now }
-    ensures small { All (λ x. unsigned_abs x < 2 ^ 63) lead.new }
+    ensures small { All (λ x. unsigned_abs x < WIDE) lead.new }
     ensures positive { pos 0 <ℤ slice_index_or lead.new column (pos 0) }
 {
     lead.copy_from_slice(row);
@@ -131,7 +134,7 @@ pub(crate) fn turn(lead: &mut [i64], row: &[i64], column: usize)
 
 /// Turns the sign of each entry.
 fn negate(row: &mut [i64])
-    requires { All (λ x. unsigned_abs x < 2 ^ 63) row.old }
+    requires { All (λ x. unsigned_abs x < WIDE) row.old }
     ensures { row.new ≡ map neg_ℤ row.old }
 {
     for x in row.iter_mut() {
@@ -141,7 +144,7 @@ fn negate(row: &mut [i64])
 
 /// The number with the other sign.
 pub(crate) fn opposite(x: i64) -> i64
-    requires { unsigned_abs x < 2 ^ 63 }
+    requires { unsigned_abs x < WIDE }
     ensures { result ≡ neg_ℤ x }
 {
     -x

@@ -1,11 +1,13 @@
--- Forms: the equations that a program begins with, and those that a pivot makes of others. Entries are whole numbers of any size.
+-- Forms: the equations that a program begins with, and those that a pivot makes of others. Entries are whole numbers of any
+-- size.
 --
 -- The variables of a form are, in order, the cost, those of the program, and one slack a row, the row's value.
-use Rattle.std.specs.Prelude.{ℕ, ℤ, pos, suc, zero, ◌-◌, ◌≡◌, ◌≢◌, ◌<◌, ◌+◌, ◌^◌, ◌+ℤ◌, ◌*ℤ◌, ◌-ℤ◌, ◌<ℤ◌, List, [], ◌∷◌, map, length, slice_index, slice_index_or, slice_set, if◌then◌else◌, ◌==◌, nat_le, int_lt, unsigned_abs, Option, Some, None}
+use Rattle.std.specs.Prelude.{ℕ, ℤ, pos, suc, zero, ◌-◌, ◌≡◌, ◌≢◌, ◌<◌, ◌+◌, ◌+ℤ◌, ◌*ℤ◌, ◌-ℤ◌, ◌<ℤ◌, List, [], ◌∷◌, map, length, slice_index, slice_index_or, slice_set, if◌then◌else◌, ◌==◌, nat_le, int_lt, unsigned_abs, Option, Some, None}
 use lib.IntN.{neg_ℤ}
 use Rattle.std.specs.List.{All, range_with_len}
 use Rattle.std.specs.Option.{option_or}
 use Rattle.exact_num.specs.Divisors.{primitive, IsPrimitive}
+use Rattle.exact_num.specs.declared.limits.TheConstants.{WIDE}
 use Rattle.row_program.specs.Sums.{sum_from}
 use Rattle.row_program.specs.declared.program.Term.{Term}
 use Rattle.row_program.specs.declared.program.Row.{Row}
@@ -83,7 +85,8 @@ combination p (x ∷ row) q (y ∷ lead) = (p *ℤ x -ℤ q *ℤ y) ∷ combinat
 
 -- the row, cleared in the column by the lead, and divided by its greatest common divisor
 abbrev pub eliminated : ℕ → List ℤ → List ℤ → List ℤ
-eliminated column row lead = primitive (combination (slice_index_or lead column (pos 0)) row (slice_index_or row column (pos 0)) lead)
+eliminated column row lead =
+    primitive (combination (slice_index_or lead column (pos 0)) row (slice_index_or row column (pos 0)) lead)
 
 -- what becomes of the row with the number i
 abbrev pub next_row : ℕ → ℕ → List ℤ → ℕ → List ℤ → List ℤ
@@ -110,7 +113,7 @@ next_form t place column = record {
 -- the size of the first entry of 63 bits or more
 abbrev pub first_large : List ℤ → Option ℕ
 first_large [] = None
-first_large (x ∷ row) = if nat_le (2 ^ 63) (unsigned_abs x) then Some (unsigned_abs x) else first_large row
+first_large (x ∷ row) = if nat_le WIDE (unsigned_abs x) then Some (unsigned_abs x) else first_large row
 
 -- the same of equations, in their order, each right side after its columns
 abbrev pub first_large_of : List (List ℤ) → Option ℕ
@@ -127,7 +130,13 @@ pub record Tableau : Type 0 where
   pub basic : ℕ → ℕ
 
 abbrev pub tableau : Table → Tableau
-tableau t = record { height = length t.rows; width = t.variables; at = entry t; right = right_side t; basic = basic_of t }
+tableau t = record {
+  height = length t.rows;
+  width = t.variables;
+  at = entry t;
+  right = right_side t;
+  basic = basic_of t;
+}
 
 -- the values y solve the equations, scaled by d
 abbrev pub Holds : Tableau → (ℕ → ℤ) → ℤ → Type 0

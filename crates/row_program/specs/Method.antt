@@ -1,8 +1,9 @@
--- The exact method: the lexicographic dual simplex method (Dantzig, Orden and Wolfe; Lemke) over equations with whole entries, as a
--- run of forms, over whole numbers of any size.
-use Rattle.std.specs.Prelude.{ℕ, ℤ, pos, suc, zero, ◌≡◌, ◌≤◌, ◌+◌, ◌-◌, ◌^◌, ◌*ℤ◌, ◌-ℤ◌, ◌⊎◌, List, [], ◌∷◌, length, slice_index, if◌then◌else◌, ◌==◌, int_lt, Bool, true, false, Option, Some, None, find, filter}
+-- The exact method: the lexicographic dual simplex method (Dantzig, Orden and Wolfe; Lemke) over equations with whole
+-- entries, as a run of forms, over whole numbers of any size.
+use Rattle.std.specs.Prelude.{ℕ, ℤ, pos, suc, zero, ◌≡◌, ◌≤◌, ◌+◌, ◌-◌, ◌*ℤ◌, ◌-ℤ◌, ◌⊎◌, List, [], ◌∷◌, length, slice_index, if◌then◌else◌, ◌==◌, int_lt, Bool, true, false, Option, Some, None, find, filter}
 use lib.IntN.{neg_ℤ}
 use Rattle.std.specs.List.{range_with_len, position}
+use Rattle.exact_num.specs.declared.limits.TheConstants.{WIDE}
 use Rattle.row_program.specs.Points.{IsLeastPoint}
 use Rattle.row_program.specs.Forms.{Table, entry, right_side, first_form, next_form, first_large_of}
 use Rattle.row_program.specs.declared.program.Program.{Program}
@@ -37,14 +38,17 @@ abbrev pub column_in : Table → ℕ → ℕ → Option ℕ → ℤ
 column_in t j v None = if v == j then pos 1 else pos 0
 column_in t j v (Some i) = neg_ℤ (entry t i j)
 
--- the coefficient of the variable v in the nonbasic variable j, times the basic entry of the row of v, which is positive
+-- the coefficient of the variable v in the nonbasic variable j, times the basic entry of the row of v, which is
+-- positive
 abbrev pub column : Table → ℕ → ℕ → ℤ
 column t j v = column_in t j v (row_of_basic t v)
 
 -- the first of f v, f (v + 1), .., of n values, that isn't 0 is negative
 abbrev pub lex_negative : ℕ → ℕ → (ℕ → ℤ) → Bool
 lex_negative zero v f = false
-lex_negative (suc n) v f = if int_lt (f v) (pos 0) then true else (if int_lt (pos 0) (f v) then false else lex_negative n (suc v) f)
+lex_negative (suc n) v f =
+    if int_lt (f v) (pos 0) then true
+    else (if int_lt (pos 0) (f v) then false else lex_negative n (suc v) f)
 
 -- f / a less g / b, times a b
 abbrev pub difference : (ℕ → ℤ) → ℤ → (ℕ → ℤ) → ℤ → ℕ → ℤ
@@ -52,7 +56,9 @@ difference f a g b v = f v *ℤ b -ℤ g v *ℤ a
 
 -- the column of j comes before that of k, each divided by the variable's coefficient in the row
 abbrev pub comes_before : Table → ℕ → ℕ → ℕ → Bool
-comes_before t row j k = lex_negative (value_count t) 0 (difference (column t j) (neg_ℤ (entry t row j)) (column t k) (neg_ℤ (entry t row k)))
+comes_before t row j k =
+    lex_negative (value_count t) 0
+    (difference (column t j) (neg_ℤ (entry t row j)) (column t k) (neg_ℤ (entry t row k)))
 
 -- the variables with a positive coefficient in the row: their entries are negative, so none of them is basic
 abbrev pub candidates : Table → ℕ → List ℕ
@@ -104,8 +110,11 @@ HasLarge t = (size : ℕ) × (first_large_of t.rows ≡ Some size)
 
 -- the denominator or a number of a point has 63 bits or more
 abbrev pub HasLargeNumber : List ℕ → ℕ → Type 0
-HasLargeNumber whole den = (2 ^ 63 ≤ den) ⊎ ((k : ℕ) × (2 ^ 63 ≤ slice_index whole k))
+HasLargeNumber whole den = (WIDE ≤ den) ⊎ ((k : ℕ) × (WIDE ≤ slice_index whole k))
 
 -- some form of the run has a large entry, or the run ends in Best at a least point with a large number
 abbrev pub IsWide : Program → Type 0
-IsWide p = ((k : ℕ) × HasLarge (run_of p k)) ⊎ ((k : ℕ) × (whole : List ℕ) × (den : ℕ) × IsBest (run_of p k) × IsLeastPoint p whole den × HasLargeNumber whole den)
+IsWide p =
+    ((k : ℕ) × HasLarge (run_of p k))
+    ⊎ ((k : ℕ) × (whole : List ℕ) × (den : ℕ) × IsBest (run_of p k) × IsLeastPoint p whole den
+    × HasLargeNumber whole den)

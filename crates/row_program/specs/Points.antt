@@ -29,8 +29,10 @@ cost_of (c ∷ costs) (x ∷ whole) = c * x + cost_of costs whole
 -- num / den is the cost of some point, and no point costs less
 pub record IsLeastCost (program : Program) (num den : ℤ) : Type 0 where
   pub positive : pos 0 <ℤ den
-  pub reached : (whole : List ℕ) × (d : ℕ) × IsPoint program whole d × (pos (cost_of program.costs whole) *ℤ den ≡ num *ℤ pos d)
-  pub least : (whole : List ℕ) (d : ℕ) → IsPoint program whole d → (num *ℤ pos d) ≤ℤ (pos (cost_of program.costs whole) *ℤ den)
+  pub reached : (whole : List ℕ) × (d : ℕ) × IsPoint program whole d
+      × (pos (cost_of program.costs whole) *ℤ den ≡ num *ℤ pos d)
+  pub least : (whole : List ℕ) (d : ℕ) → IsPoint program whole d →
+      (num *ℤ pos d) ≤ℤ (pos (cost_of program.costs whole) *ℤ den)
 
 -- the values xs / d come before ys / e or are equal: the first that differ rise
 abbrev pub IsLexAtMost : List ℕ → ℕ → List ℕ → ℕ → Type 0
@@ -45,6 +47,8 @@ SameValues xs d ys e = (k : ℕ) → slice_index xs k * e ≡ slice_index ys k *
 -- the lexicographically least of the points of least cost, in its least denominator
 pub record IsLeastPoint (program : Program) (whole : List ℕ) (den : ℕ) : Type 0 where
   pub point : IsPoint program whole den
-  pub cheapest : (ys : List ℕ) (e : ℕ) → IsPoint program ys e → cost_of program.costs whole * e ≤ cost_of program.costs ys * den
-  pub least : (ys : List ℕ) (e : ℕ) → IsPoint program ys e → cost_of program.costs ys * den ≡ cost_of program.costs whole * e → IsLexAtMost whole den ys e
+  pub cheapest : (ys : List ℕ) (e : ℕ) → IsPoint program ys e →
+      cost_of program.costs whole * e ≤ cost_of program.costs ys * den
+  pub least : (ys : List ℕ) (e : ℕ) → IsPoint program ys e →
+      cost_of program.costs ys * den ≡ cost_of program.costs whole * e → IsLexAtMost whole den ys e
   pub lowest : (ys : List ℕ) (e : ℕ) → IsPoint program ys e → SameValues whole den ys e → den ≤ e

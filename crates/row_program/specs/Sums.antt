@@ -10,8 +10,3 @@ sum_from (suc n) v f = f v +ℤ sum_from n (suc v) f
 abbrev pub LexPositive : ℕ → ℕ → (ℕ → ℤ) → Type 0
 LexPositive zero v f = ⊥
 LexPositive (suc n) v f = (pos 0 <ℤ f v) ⊎ ((f v ≡ pos 0) × LexPositive n (suc v) f)
-
--- the same, or all are 0
-abbrev pub LexNonnegative : ℕ → ℕ → (ℕ → ℤ) → Type 0
-LexNonnegative zero v f = Unit {0}
-LexNonnegative (suc n) v f = (pos 0 <ℤ f v) ⊎ ((f v ≡ pos 0) × LexNonnegative n (suc v) f)

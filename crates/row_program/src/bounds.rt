@@ -1,19 +1,16 @@
 // The test of a program's bounds.
-ghost use Rattle.std.specs.Prelude.{◌≡◌, ◌≢◌, ◌<◌, ◌≤◌, ◌^◌, ◌↔◌, IsTrue, unsigned_abs, length};
+ghost use Rattle.std.specs.Prelude.{◌≢◌, ◌<◌, ◌≤◌, ◌↔◌, IsTrue, unsigned_abs};
 ghost use Rattle.std.specs.List.{All, AllPairs};
 ghost use Rattle.row_program.specs.Bounds.{IsProgram, IsRow};
 
-use crate::{CostList, Row, RowList, Term};
-
-/// At most so many variables and so many rows.
-const MOST: usize = 1_048_576;
+use crate::{CostList, MOST_ROWS, MOST_VARIABLES, Row, RowList, TERM_LIMIT, Term};
 
 /// Whether costs, rows and the number of kept rows make a program. It compares each two terms of a row.
 pub fn is_program(costs: &CostList, rows: &RowList, kept: usize) -> bool
     ensures { IsTrue result ↔ IsProgram costs.now rows.now kept }
 {
-    costs.len() <= MOST
-        && rows.len() <= MOST
+    costs.len() <= MOST_VARIABLES
+        && rows.len() <= MOST_ROWS
         && kept <= rows.len()
         && all_small_costs(costs.as_slice())
         && all_rows(rows.as_slice(), costs.len())
@@ -48,16 +45,16 @@ fn is_row(row: &Row, variables: usize) -> bool
         && all_apart(row.terms.as_slice())
 }
 
-/// Whether a number has at most 31 bits.
+/// Whether a number is small enough for a row.
 fn is_small(x: i64) -> bool
-    ensures { IsTrue result ↔ (unsigned_abs x < 2 ^ 31) }
+    ensures { IsTrue result ↔ (unsigned_abs x < TERM_LIMIT) }
 {
-    x.unsigned_abs() < 1 << 31
+    x.unsigned_abs() < TERM_LIMIT
 }
 
 /// Whether all terms are small.
 fn all_small_terms(terms: &[Term]) -> bool
-    ensures { IsTrue result ↔ All (λ t. unsigned_abs t.times < 2 ^ 31) terms.now }
+    ensures { IsTrue result ↔ All (λ t. unsigned_abs t.times < TERM_LIMIT) terms.now }
 {
     terms.iter().all(|t| is_small(t.times))
 }

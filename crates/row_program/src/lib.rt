@@ -2,8 +2,9 @@
 //!
 //! A program is a list of variables with costs and a list of rows that must not be negative; a point gives its variables
 //! values over one denominator. The crate promises whether a point meets all rows and what it costs. In `specs/` it has
-//! what a point is, what the least cost and the least point are, and, apart from these, the forms, the pivots and the run
-//! of the method that finds them. It stands on the base crate and on the exact tools.
+//! what a point is, what the least cost and the least point are, and, apart from these, the forms, the pivots and the
+//! run of the method that finds them. It has the features of replacements and the limits on them, too. It stands on the
+//! base crate and on the exact tools.
 #![tactic(auto)]
 
 mod bounds;
@@ -12,7 +13,7 @@ mod points;
 mod program;
 
 pub use bounds::is_program;
-pub use limits::{MOST_KIDS, MOST_LIMITS};
+pub use limits::{MOST_KIDS, MOST_LIMITS, MOST_ROWS, MOST_VARIABLES, TERM_LIMIT};
 pub use points::{holds_at, point_cost};
 pub use program::{CostList, NumberList, Point, Program, Row, RowList, Term, TermList};
 
@@ -35,6 +36,3 @@ pub struct Limit {
     /// How many replacements.
     pub value: u32,
 }
-
-#[cfg(test)]
-mod tests;

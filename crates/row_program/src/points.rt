@@ -1,11 +1,12 @@
 // A point at the rows of a program, and its cost.
-ghost use Rattle.std.specs.Prelude.{◌≡◌, ℕ, ℤ, pos, ◌<◌, ◌≤◌, ◌*◌, ◌^◌, ◌*ℤ◌, ◌≤ℤ◌, ◌↔◌, IsTrue, length, unsigned_abs};
+ghost use Rattle.std.specs.Prelude.{◌≡◌, ℤ, pos, ◌<◌, ◌≤◌, ◌*◌, ◌^◌, ◌*ℤ◌, ◌↔◌, IsTrue, length, unsigned_abs};
 ghost use Rattle.std.specs.List.{All};
 ghost use Rattle.mov_base.specs.Sums.{sum_z};
 ghost use Rattle.row_program.specs.Bounds.{IsRow};
 ghost use Rattle.row_program.specs.Points.{IsPoint, row_value, term_value, cost_of};
 
-use crate::{Point, Program, Row, Term};
+use crate::{MOST_VARIABLES, Point, Program, Row, TERM_LIMIT, Term};
+use exact_num::WIDE;
 
 /// Whether all rows hold at the point.
 pub fn holds_at(program: &Program, point: &Point) -> bool
@@ -23,9 +24,9 @@ pub fn holds_at(program: &Program, point: &Point) -> bool
 /// What the row says at the values, times their denominator.
 fn value_at(row: &Row, whole: &[u64], den: u64) -> i128
     requires row { IsRow (length whole.now) row.now }
-    requires few { length whole.now ≤ 2 ^ 20 }
-    requires small { den < 2 ^ 63 }
-    requires small_numbers { All (λ x. x < 2 ^ 63) whole.now }
+    requires few { length whole.now ≤ MOST_VARIABLES }
+    requires small { den < WIDE }
+    requires small_numbers { All (λ x. x < WIDE) whole.now }
     ensures { result ≡ row_value row.now whole.now den }
 {
     scaled(row.constant, den) + terms_sum(row.terms.as_slice(), whole)
@@ -33,10 +34,10 @@ fn value_at(row: &Row, whole: &[u64], den: u64) -> i128
 
 /// The sum of the terms at the values.
 fn terms_sum(terms: &[Term], whole: &[u64]) -> i128
-    requires few { length terms.now ≤ 2 ^ 20 }
-    requires small_terms { All (λ t. unsigned_abs t.times < 2 ^ 31) terms.now }
+    requires few { length terms.now ≤ MOST_VARIABLES }
+    requires small_terms { All (λ t. unsigned_abs t.times < TERM_LIMIT) terms.now }
     requires within { All (λ t. t.variable < length whole.now) terms.now }
-    requires small_numbers { All (λ x. x < 2 ^ 63) whole.now }
+    requires small_numbers { All (λ x. x < WIDE) whole.now }
     ensures value { result ≡ sum_z (term_value whole.now) terms.now }
     ensures small { unsigned_abs result ≤ 2 ^ 114 }
 {
@@ -49,8 +50,8 @@ fn terms_sum(terms: &[Term], whole: &[u64]) -> i128
 
 /// The product of a number of 31 bits and one of 63.
 fn scaled(times: i64, number: u64) -> i128
-    requires times { unsigned_abs times < 2 ^ 31 }
-    requires number { number < 2 ^ 63 }
+    requires times { unsigned_abs times < TERM_LIMIT }
+    requires number { number < WIDE }
     ensures value { result ≡ times *ℤ pos number }
     ensures small { unsigned_abs result < 2 ^ 94 }
 {
@@ -68,9 +69,9 @@ pub fn point_cost(program: &Program, point: &Point) -> u128
 /// The sum of the products of costs and numbers.
 fn cost_sum(costs: &[u8], whole: &[u64]) -> u128
     requires same { length whole.now ≡ length costs.now }
-    requires few { length costs.now ≤ 2 ^ 20 }
+    requires few { length costs.now ≤ MOST_VARIABLES }
     requires small_costs { All (λ c. c ≤ 1) costs.now }
-    requires small_numbers { All (λ x. x < 2 ^ 63) whole.now }
+    requires small_numbers { All (λ x. x < WIDE) whole.now }
     ensures { result ≡ cost_of costs.now whole.now }
 {
     let mut sum = 0;
@@ -83,9 +84,9 @@ fn cost_sum(costs: &[u8], whole: &[u64]) -> u128
 /// The product of a cost and a number of 63 bits.
 fn charged(cost: u8, number: u64) -> u128
     requires cost { cost ≤ 1 }
-    requires number { number < 2 ^ 63 }
+    requires number { number < WIDE }
     ensures value { result ≡ cost * number }
-    ensures small { result < 2 ^ 63 }
+    ensures small { result < WIDE }
 {
     cost as u128 * number as u128
 }

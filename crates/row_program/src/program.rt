@@ -1,5 +1,4 @@
 // Programs and points, with their bounds.
-ghost use Rattle.std.specs.Prelude.{◌≡◌, ◌≤◌, ◌<◌, ◌^◌, ◌↔◌, IsTrue, IfOk};
 ghost use Rattle.std.proofs.Props.{props};
 ghost use Rattle.row_program.specs.Bounds.{IsProgram, IsSmallPoint};
 

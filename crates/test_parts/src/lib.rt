@@ -5,8 +5,16 @@
 #[cfg(test)]
 mod base;
 #[cfg(test)]
-mod bound_tree;
+mod edge;
 #[cfg(test)]
-mod exact_num;
+mod exact_num_tests;
 #[cfg(test)]
-mod mov_edge;
+mod lex_dual_tests;
+#[cfg(test)]
+mod pivot_form_tests;
+#[cfg(test)]
+mod programs;
+#[cfg(test)]
+mod row_program_tests;
+#[cfg(test)]
+mod trees;

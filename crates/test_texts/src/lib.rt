@@ -3,10 +3,10 @@
 #![tactic(auto)]
 
 #[cfg(test)]
-mod ballot_csv;
+mod ballot_files;
 #[cfg(test)]
-mod cert_text;
+mod certificates;
 #[cfg(test)]
 mod fault_texts;
 #[cfg(test)]
-mod text_lines;
+mod lines;

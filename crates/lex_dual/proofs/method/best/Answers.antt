@@ -11,11 +11,10 @@ use Rattle.row_program.specs.Method.{IsBest, IsWide}
 use Rattle.dual_theory.proofs.Wide.{wide_size}
 use Rattle.dual_theory.specs.Ends.{IsWideSize, large_in_point, point_whole}
 use Rattle.dual_theory.specs.Multipliers.{IsLowest, slack_sizes, multipliers_of, BoundsCost}
-use Rattle.dual_theory.proofs.Best.{best_point, best_cost}
 use Rattle.dual_theory.proofs.Unique.{same_cost}
-use Rattle.dual_theory.proofs.Shown.{best_shown, same_bound, lowest_is}
+use Rattle.dual_theory.proofs.Shown.{same_bound, lowest_is}
 use Rattle.lex_dual.proofs.Points.{if_wide}
-use Rattle.lex_dual.proofs.Reaching.{reached_run, reached_form, reached_variables, reached_height, reached_places, cost_entry, wide_point, not_wide_at_best, each_multiplier}
+use Rattle.lex_dual.proofs.Reaching.{reached_form, reached_variables, reached_height, reached_places, cost_entry, wide_point, least_cost, least_point, bounds_cost, not_wide_at_best, each_multiplier}
 use Rattle.lex_dual.proofs.method.best.Goals as goal
 
 pub right-requires : goal.right-requires
@@ -73,13 +72,13 @@ returns-clause-cost c =
     let p = c.args.program.now in
     let t = c.args.form.now in
     let value = same_value (right_side t 0) (entry t 0 0) c.new-value.result.num c.new-value.result.den c.right.result c.entry.result (search rules) (search rules) c.new-value.ensures c.right.ensures c.entry.ensures in
-    same_cost p (right_side t 0) (entry t 0 0) c.new-value.result.num c.new-value.result.den (best_cost p t (reached_run p t c.requires.reached) c.requires.best) c.new-value.result.positive value
+    same_cost p (right_side t 0) (entry t 0 0) c.new-value.result.num c.new-value.result.den (least_cost p t c.requires.reached c.requires.best) c.new-value.result.positive value
 
 pub returns-clause-point : goal.returns-clause-point
 returns-clause-point c =
     let p = c.args.program.now in
     let t = c.args.form.now in
-    subst (λ (whole : List ℕ). IsLeastPoint p whole c.in_ok-point.point.den) (sym c.in_ok-point.ensures.numbers) (subst (IsLeastPoint p (point_whole p t)) (sym c.in_ok-point.ensures.den) (best_point p t (reached_run p t c.requires.reached) c.requires.best))
+    subst (λ (whole : List ℕ). IsLeastPoint p whole c.in_ok-point.point.den) (sym c.in_ok-point.ensures.numbers) (subst (IsLeastPoint p (point_whole p t)) (sym c.in_ok-point.ensures.den) (least_point p t c.requires.reached c.requires.best))
 
 pub returns-clause-shown : goal.returns-clause-shown
 returns-clause-shown c =
@@ -87,7 +86,7 @@ returns-clause-shown c =
     let t = c.args.form.now in
     let value = same_value (right_side t 0) (entry t 0 0) c.new-value.result.num c.new-value.result.den c.right.result c.entry.result (search rules) (search rules) c.new-value.ensures c.right.ensures c.entry.ensures in
     subst (λ (ms : List ℕ). BoundsCost p ms c.new-value.result.num c.new-value.result.den) (sym c.in_ok-multipliers.ensures)
-    (same_bound p (multipliers_of p t 0) (right_side t 0) (entry t 0 0) c.new-value.result.num c.new-value.result.den (best_shown p t (reached_run p t c.requires.reached) c.requires.best) (cost_entry p t c.requires.reached) c.new-value.result.positive value)
+    (same_bound p (multipliers_of p t 0) (right_side t 0) (entry t 0 0) c.new-value.result.num c.new-value.result.den (bounds_cost p t c.requires.reached c.requires.best) (cost_entry p t c.requires.reached) c.new-value.result.positive value)
 
 pub returns-clause-each_row : goal.returns-clause-each_row
 returns-clause-each_row c = ap length c.in_ok-multipliers.ensures ∙ each_multiplier c.args.program.now c.args.form.now 0

@@ -2,8 +2,8 @@ use Rattle.std.proofs.Common.{◌≡◌, ap, sym, ◌∙◌, subst, length, Some
 use Rattle.row_program.specs.Forms.{Table}
 use Rattle.row_program.specs.Method.{leaving, entering}
 use Rattle.dual_theory.specs.Multipliers.{IsLowest, slack_sizes, multipliers_of, RulesOut}
-use Rattle.dual_theory.proofs.Shown.{never_point, never_shown, lowest_is}
-use Rattle.lex_dual.proofs.Reaching.{reached_run, reached_form, reached_variables, leaves_within, not_wide_at_never, each_multiplier}
+use Rattle.dual_theory.proofs.Shown.{lowest_is}
+use Rattle.lex_dual.proofs.Reaching.{reached_form, reached_variables, leaves_within, not_wide_at_never, no_point, rules_out, each_multiplier}
 use Rattle.lex_dual.proofs.method.never.Goals as goal
 
 pub multipliers-requires-clause-form : goal.multipliers-requires-clause-form
@@ -16,10 +16,10 @@ pub multipliers-requires-clause-row : goal.multipliers-requires-clause-row
 multipliers-requires-clause-row c = leaves_within c.args.program.now c.args.form.now c.requires.reached c.args.row c.requires.leaving
 
 pub returns-clause-point : goal.returns-clause-point
-returns-clause-point c = never_point c.args.program.now c.args.form.now c.args.row (reached_run c.args.program.now c.args.form.now c.requires.reached) c.requires.leaving c.requires.none
+returns-clause-point c = no_point c.args.program.now c.args.form.now c.requires.reached c.args.row c.requires.leaving c.requires.none
 
 pub returns-clause-shown : goal.returns-clause-shown
-returns-clause-shown c = subst (RulesOut c.args.program.now) (sym c.in_ok-multipliers.ensures) (never_shown c.args.program.now c.args.form.now c.args.row (reached_run c.args.program.now c.args.form.now c.requires.reached) c.requires.leaving c.requires.none)
+returns-clause-shown c = subst (RulesOut c.args.program.now) (sym c.in_ok-multipliers.ensures) (rules_out c.args.program.now c.args.form.now c.requires.reached c.args.row c.requires.leaving c.requires.none)
 
 pub returns-clause-each_row : goal.returns-clause-each_row
 returns-clause-each_row c = ap length c.in_ok-multipliers.ensures ∙ each_multiplier c.args.program.now c.args.form.now c.args.row

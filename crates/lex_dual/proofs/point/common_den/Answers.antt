@@ -1,6 +1,5 @@
 use Rattle.std.proofs.Common.{arith, ap, sym, ◌∙◌, ◌≡◌, ◌+◌, ◌-◌, ℕ, length, false, Some}
-use Rattle.dual_theory.specs.Ends.{lcm_of, common_den}
-use Rattle.lex_dual.specs.Faults.{is_large}
+use Rattle.dual_theory.specs.Ends.{is_large, lcm_of, common_den}
 use Rattle.lex_dual.proofs.Points.{large, not_large, found_in_map, none_in_map, none_more, common_more}
 use Rattle.lex_dual.proofs.point.common_den.Goals as goal
 

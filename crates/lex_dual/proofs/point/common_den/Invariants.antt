@@ -1,6 +1,5 @@
 use Rattle.std.proofs.Common.{◌≡◌, ◌<◌, ◌≤◌, ◌+◌, ◌^◌, ℕ, false}
-use Rattle.dual_theory.specs.Ends.{common_den}
-use Rattle.lex_dual.specs.Faults.{is_large}
+use Rattle.dual_theory.specs.Ends.{is_large, common_den}
 use Rattle.lex_dual.proofs.point.common_den.Given as goal
 
 abbrev pub invariant-loop-variable : goal.invariant-loop-variable

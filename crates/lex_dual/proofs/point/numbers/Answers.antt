@@ -3,8 +3,7 @@ use Rattle.std.specs.List.{All, range_with_len}
 use Rattle.std.proofs.lemmas.List.FromFn.{map-range_with_len_more}
 use Rattle.std.proofs.lemmas.List.Elements.{All-push}
 use Rattle.row_program.specs.Forms.{Table}
-use Rattle.dual_theory.specs.Ends.{whole_number, lowest_num, lowest_den, common_den}
-use Rattle.lex_dual.specs.Faults.{is_large}
+use Rattle.dual_theory.specs.Ends.{is_large, whole_number, lowest_num, lowest_den, common_den}
 use Rattle.lex_dual.proofs.Points.{large, not_large, found_in_map, none_in_map, none_more}
 use Rattle.lex_dual.proofs.point.numbers.Goals as goal
 

@@ -1,7 +1,6 @@
 use Rattle.std.proofs.Common.{◌≡◌, ◌<◌, ◌≤◌, ◌+◌, ◌-◌, ◌^◌, ℕ, false, length, map}
 use Rattle.std.specs.List.{All, range_with_len}
-use Rattle.dual_theory.specs.Ends.{whole_number}
-use Rattle.lex_dual.specs.Faults.{is_large}
+use Rattle.dual_theory.specs.Ends.{is_large, whole_number}
 use Rattle.lex_dual.proofs.point.numbers.Given as goal
 
 abbrev pub invariant-loop-variable : goal.invariant-loop-variable

@@ -2,8 +2,7 @@ use Rattle.std.proofs.Common.{arith, ◌≡◌, ◌-◌, ℕ, length, None, Some
 use Rattle.std.proofs.lemmas.Result.{err_from_is_err_and}
 use Rattle.lex_dual.proofs.Points.{large_in_den, large_in_numbers, if_wide}
 use Rattle.std.specs.Prelude.{find}
-use Rattle.dual_theory.specs.Ends.{whole_numbers, large_in_point}
-use Rattle.lex_dual.specs.Faults.{is_large}
+use Rattle.dual_theory.specs.Ends.{is_large, whole_numbers, large_in_point}
 use Rattle.lex_dual.proofs.point.point.Goals as goal
 
 pub returns-in_err-den-clause-numbers : goal.returns-in_err-den-clause-numbers

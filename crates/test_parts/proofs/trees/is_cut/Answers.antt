@@ -1,7 +1,7 @@
 use Rattle.std.proofs.Common.{Some, ap, ◌∙◌}
 use Rattle.bound_tree.specs.Plain.{plain_of}
 use Rattle.bound_tree.proofs.Shapes.{plain_Cut}
-use Rattle.test_parts.proofs.bound_tree.is_cut.Goals as goal
+use Rattle.test_parts.proofs.trees.is_cut.Goals as goal
 
 pub returns-in-Cut : goal.returns-in-Cut
 returns-in-Cut c = λ yes. record {

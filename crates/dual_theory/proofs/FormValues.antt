@@ -5,7 +5,7 @@ use Rattle.row_program.specs.Sums.{sum_from, LexPositive}
 use Rattle.row_program.specs.Forms.{Table, Tableau, row_of, basic_of, right_side, tableau, coefficient, empty_row, variable_count, Holds, IsNonbasic}
 use Rattle.row_program.specs.declared.program.Row.{Row}
 use Rattle.row_program.specs.declared.program.Program.{Program}
-use Rattle.pivot_form.specs.Invariant.{IsShaped}
+use Rattle.pivot_form.proofs.NextForm.{IsShaped}
 
 -- the cost at x
 abbrev pub cost_at : Program → (ℕ → ℤ) → ℤ
