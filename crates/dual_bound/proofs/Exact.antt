@@ -21,7 +21,7 @@ use Rattle.goal_rows.specs.declared.parts.Ground.{Ground}
 use Rattle.goal_rows.proofs.Ways.{reached_pair}
 use Rattle.dual_bound.specs.CutTest.{AreGains, AreMultipliers, Cuts, CutsKept, IsBound, base_of, weighed_of}
 use Rattle.dual_bound.specs.Largest.{CutsAt, IsGreatestCut, IsSmallPair, gain_under}
-use Rattle.dual_bound.proofs.PairPoints.{ArePairPoints, pair_points}
+use Rattle.goal_rows.proofs.PairPoints.{ArePairPoints, pair_points}
 use Rattle.dual_bound.proofs.Sound.{gains-unique}
 
 -- ---- the gain of a ballot
@@ -37,7 +37,8 @@ times_le m d z le = by (pos d -ℤ z) refl
         omega (arith, ints, b, c)
     by (negsuc e) is = absurd (omega (arith, ints))
 
--- where no ballot counts more for the gainer than the gainer alone, which counts top, the gains are those of replacements by it
+-- where no ballot counts more for the gainer than the gainer alone, which counts top, the gains are those of
+-- replacements by it
 pair_gains : (p : Poll) (top m g : ℕ) (plus minus : List ℕ → ℕ) (start ballots : List (List ℕ)) → ((ballot : List ℕ) → plus ballot ≤ top)
     → ((ballot : List ℕ) → minus ballot ≤ 1024) → plus (g ∷ []) ≡ top → minus (g ∷ []) ≡ 0 → IsValidBallot p.c (g ∷ [])
     → AreGains p ((m, kept_row start (λ ballot. pos (plus ballot) -ℤ pos (minus ballot))) ∷ []) ballots

@@ -1,5 +1,4 @@
 pub mod Sound
-pub mod PairPoints
 pub mod Exact
 pub mod Sizes
 pub mod Sorting

@@ -13,7 +13,7 @@ use Rattle.goal_rows.specs.declared.goals.Goal.{Goal}
 use Rattle.goal_rows.specs.declared.goals.Goal.TheVariants.{Root, Pair}
 use Rattle.goal_rows.specs.declared.parts.Ground.{Ground}
 use Rattle.goal_rows.proofs.Ways.{reached_pair}
-use Rattle.dual_bound.proofs.PairPoints.{pair_points}
+use Rattle.goal_rows.proofs.PairPoints.{pair_points}
 
 all_map : (f : List ℕ → ℕ) (n : ℕ) (ballots : List (List ℕ)) → ((ballot : List ℕ) → f ballot < n) → All (λ y. y < n) (map f ballots)
 all_map f n [] below i d lt = absurd (omega arith)

@@ -1,5 +1,6 @@
--- The cut test: numbers, one for each row of a goal and each limit, that show that few replacements can't meet the node. This is weak
--- duality, replacement by replacement: the sum of the numbers times the values of rows and limits would have to be at least 0.
+-- The cut test: numbers, one for each row of a goal and each limit, that show that few replacements can't meet the
+-- node. This is weak duality, replacement by replacement: the sum of the numbers times the values of rows and limits
+-- would have to be at least 0.
 use Rattle.std.specs.Prelude.{◌≡◌, ◌⊎◌, ℕ, ◌+◌, ◌-◌, ◌≤◌, ◌<◌, List, [], ◌∷◌, All, length, min, ℤ, pos, ◌+ℤ◌, ◌*ℤ◌, ◌<ℤ◌, ◌≤ℤ◌}
 use Rattle.std.specs.List.{zip}
 use Rattle.mov_base.specs.Sums.{most, sum_z}
@@ -30,11 +31,12 @@ AreGains p weighed [] (gain ∷ gains) = ⊥
 AreGains p weighed (ballot ∷ ballots) [] = ⊥
 AreGains p weighed (ballot ∷ ballots) (gain ∷ gains) = IsGain p weighed ballot gain × AreGains p weighed ballots gains
 
--- the test at t over rows and limits with their multipliers: it passes at 0, and where the value before any replacement and the t - 1
--- largest gains together are below 0
+-- the test at t over rows and limits with their multipliers: it passes at 0, and where the value before any replacement
+-- and the t - 1 largest gains together are below 0
 abbrev pub CutsKept : Poll → List (ℕ × Kept) → ℕ → Type 0
 CutsKept p weighed t =
-    (t ≡ 0) ⊎ ((gains : List ℕ) × AreGains p weighed p.ballots gains × ((base_of weighed +ℤ pos (most (t - 1) gains)) <ℤ pos 0))
+    (t ≡ 0)
+    ⊎ ((gains : List ℕ) × AreGains p weighed p.ballots gains × ((base_of weighed +ℤ pos (most (t - 1) gains)) <ℤ pos 0))
 
 -- the rows and limits of a node with their multipliers
 abbrev pub weighed_of : Election → Node → List ℕ → List (ℕ × Kept)

@@ -1,11 +1,12 @@
 //! The cut test.
 //!
-//! Numbers, one for each row of a goal and each limit of a node, show that no list of fewer than so many replacements meets the node:
-//! the values before any replacement, times these numbers, and the largest gains of so many ballots together stay below 0. The
-//! definition (`specs/CutTest.antt`) takes the gains ballot by ballot, each over all valid new ballots; `cuts` is exactly this test, and
-//! `bound_of` the greatest number at which it passes. They work over the classes of ballots, in a `Scratch` that is made before, and
-//! take no memory. Where the test passes, no shorter list of replacements meets the node. A node is the root or a pair, under any rule
-//! that is decided by pairs; these have no features, and so no limits. The crate stands on `goal_rows`, and on `row_program` for limits.
+//! Numbers, one for each row of a goal and each limit of a node, show that no list of fewer than so many replacements
+//! meets the node: the values before any replacement, times these numbers, and the largest gains of so many ballots
+//! together stay below 0. The definition (`specs/CutTest.antt`) takes the gains ballot by ballot, each over all valid
+//! new ballots; `cuts` is exactly this test, and `bound_of` the greatest number at which it passes. They work over the
+//! classes of ballots, in a `Scratch` that is made before, and take no memory. Where the test passes, no shorter list
+//! of replacements meets the node. A node is the root or a pair, under any rule that is decided by pairs; these have no
+//! features, and so no limits. The crate stands on `goal_rows`, and on `row_program` for limits.
 #![tactic(auto)]
 
 mod largest;

@@ -47,7 +47,8 @@ pub(crate) fn sorted_gains(start: &Ground, multiplier: u64, places: &mut [(u128,
     ensures order { IsDescending places.new }
     ensures small { AreSmall places.new }
     ensures counted { add_up (λ p. p.1) places.new ≡ start.now.ballots }
-    ensures same { (keys : List ℕ) → IsGrouped keys start.now.classes → IsGrouped (map (gain_under start.now.lone multiplier) keys) places.new }
+    ensures same { (keys : List ℕ) → IsGrouped keys start.now.classes →
+        IsGrouped (map (gain_under start.now.lone multiplier) keys) places.new }
 {
     write_gains(&start.classes, best_key(start), multiplier, places);
     sort_classes(places);

@@ -51,7 +51,8 @@ impl Scratch {
         requires room { length start.now.classes ≤ self.old }
         requires enough { t ≤ start.now.ballots + 1 }
         ensures value { (keys : List ℕ) → IsGrouped keys start.now.classes → (IsTrue result
-            ↔ CutsAt (pos multiplier *ℤ slice_index_or start.now.sums 0 (pos 0)) (map (gain_under start.now.lone multiplier) keys) t) }
+            ↔ CutsAt (pos multiplier *ℤ slice_index_or start.now.sums 0 (pos 0))
+            (map (gain_under start.now.lone multiplier) keys) t) }
         ensures room { self.new ≡ self.old }
     {
         let places = &mut self.places[..start.classes.len()];
@@ -65,7 +66,8 @@ impl Scratch {
         requires multiplier { multiplier < WIDE }
         requires room { length start.now.classes ≤ self.old }
         ensures value { (keys : List ℕ) → IsGrouped keys start.now.classes →
-            IsGreatestCut (pos multiplier *ℤ slice_index_or start.now.sums 0 (pos 0)) (map (gain_under start.now.lone multiplier) keys)
+            IsGreatestCut (pos multiplier *ℤ slice_index_or start.now.sums 0 (pos 0))
+            (map (gain_under start.now.lone multiplier) keys)
             (start.now.ballots + 1) result }
         ensures room { self.new ≡ self.old }
     {

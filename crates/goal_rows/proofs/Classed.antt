@@ -1,27 +1,30 @@
 -- What a pair is before any replacement, from the kinds of ballots.
-use Rattle.std.proofs.Common.{ℕ, zero, suc, List, [], ◌∷◌, ◌++◌, ◌≡◌, ◌<◌, ◌≤◌, ◌+◌, ◌*◌, ◌∙◌, take, length, get_or, sym, refl, ap, arith}
+use Rattle.std.proofs.Common.{ℕ, zero, suc, List, [], ◌∷◌, ◌++◌, ◌≡◌, ◌<◌, ◌≤◌, ◌+◌, ◌*◌, ◌∙◌, take, length, map, get_or, sym, refl, ap, arith}
 use Rattle.std.specs.Prelude.{nat_eq, ℤ, pos, ◌-ℤ◌}
 use Rattle.std.specs.Str.{bytes_eq}
-use Rattle.std.proofs.lemmas.List.{take_all, take_more, map-append}
+use Rattle.std.proofs.lemmas.List.{take_all, take_more, map-append, length-map}
 use Rattle.mov_base.specs.Sums.{add_up, sum_z}
 use Rattle.mov_base.proofs.Sums.{add_up-append, add_up-le}
-use Rattle.ballot_form.specs.Ballots.{Poll}
 use Rattle.ballot_form.specs.declared.limits.TheConstants.{MOST_BALLOTS}
 use Rattle.signature_class.specs.Classes.{add_all, add_class, classes_of, count_of}
 use Rattle.signature_class.proofs.Counts.{add_all-append, classes_by_kinds, count_le, kinds_are_classes, sum-add_all, sum-times_one}
 use Rattle.goal_rows.specs.declared.goals.Goal.TheVariants.{Pair}
 use Rattle.goal_rows.specs.Goals.{gainer_points, loser_points, pair_weight}
-use Rattle.goal_rows.specs.Races.{IsGroundOf, IsRace, election_of, key_of, keyed}
+use Rattle.goal_rows.specs.Races.{IsGroundOf, IsRace, election_of, key_of, keyed, seen_by}
 use Rattle.goal_rows.specs.declared.parts.Race.{Race}
 use Rattle.mov_base.proofs.Signed.{sum_z-difference}
+use Rattle.goal_rows.proofs.Seen.{gainer_seen, key_seen, loser_seen, seen_alike}
 
 -- the kinds have as many ballots as there are
-pub few_kinds : (p : Poll) (kinds : List (List ℕ × ℕ)) → kinds ≡ classes_of bytes_eq p.ballots → length p.ballots ≤ MOST_BALLOTS → add_up (λ k. k.1) kinds ≤ MOST_BALLOTS
-few_kinds p kinds is few =
-    let a = (kinds_are_classes p.ballots).counted (λ _. 1) in
-    let b = add_up-le (λ (_ : List ℕ). 1) 1 p.ballots (λ x. omega arith) in
-    let s = sum-times_one (classes_of bytes_eq p.ballots) in
-    rw is (omega (arith, a, b, s, few))
+pub few_kinds : (race : Race) → IsRace race → add_up (λ (k : List ℕ × ℕ). k.1) race.kinds ≤ MOST_BALLOTS
+few_kinds race is =
+    let rows = map (seen_by race.rule) race.roll.now.ballots in
+    let a = (kinds_are_classes rows).counted (λ _. 1) in
+    let b = add_up-le (λ (_ : List ℕ). 1) 1 rows (λ x. omega arith) in
+    let m = length-map race.roll.now.ballots (seen_by race.rule) in
+    let s = sum-times_one (classes_of bytes_eq rows) in
+    let few = is.election.poll.few in
+    rw is.kinds (omega (arith, a, b, m, s, few))
 
 -- the first i kinds, and one more
 first_kinds : (kinds : List (List ℕ × ℕ)) (i : ℕ) → i < length kinds → take (i + 1) kinds ≡ take i kinds ++ get_or kinds i ([], 0) ∷ []
@@ -87,8 +90,15 @@ counted_more f i kinds row n points sum lt row_is n_is points_is is =
 pub counted_all : (f : List ℕ → ℕ) (i : ℕ) (kinds : List (List ℕ × ℕ)) (sum : ℕ) → length kinds ≤ i → sum ≡ add_up (λ k. k.1 * f k.0) (take i kinds) → sum ≡ add_up (λ k. k.1 * f k.0) kinds
 counted_all f i kinds sum all is = is ∙ ap (add_up (λ k. k.1 * f k.0)) (take_all i kinds all)
 
-by_kinds : (f : List ℕ → ℕ) (p : Poll) (kinds : List (List ℕ × ℕ)) → kinds ≡ classes_of bytes_eq p.ballots → add_up (λ k. k.1 * f k.0) kinds ≡ add_up f p.ballots
-by_kinds f p kinds is = ap (add_up (λ k. k.1 * f k.0)) is ∙ sym ((kinds_are_classes p.ballots).counted f)
+by_kinds : (f : List ℕ → ℕ) (race : Race) → IsRace race → ((ballot : List ℕ) → f (seen_by race.rule ballot) ≡ f ballot)
+    → add_up (λ k. k.1 * f k.0) race.kinds ≡ add_up f race.roll.now.ballots
+by_kinds f race is same =
+    let rows = map (seen_by race.rule) race.roll.now.ballots in
+    ap (add_up (λ k. k.1 * f k.0)) is.kinds ∙ sym ((kinds_are_classes rows).counted f) ∙ alike race.roll.now.ballots
+  where
+    alike : (ballots : List (List ℕ)) → add_up f (map (seen_by race.rule) ballots) ≡ add_up f ballots
+    alike [] = refl
+    alike (ballot ∷ ballots) = omega (arith, same ballot, alike ballots)
 
 pub pair_values : (race : Race) (g l : ℕ) (classes : List (ℕ × ℕ)) (sum lone : ℤ) (ballots : ℕ) → IsRace race
     → classes ≡ add_all nat_eq [] (keyed (key_of (election_of race) (Pair g l)) race.kinds)
@@ -99,10 +109,13 @@ pair_values race g l classes sum lone ballots is classes_are sum_is alone count 
     let e = election_of race in
     let p = race.roll.now in
     record {
-      classes = classes_are ∙ ap (λ ks. add_all nat_eq [] (keyed (key_of e (Pair g l)) ks)) is.kinds ∙ classes_by_kinds (key_of e (Pair g l)) p.ballots;
+      classes =
+          let key = key_of e (Pair g l) in
+          classes_are ∙ ap (λ ks. add_all nat_eq [] (keyed key ks)) is.kinds ∙ classes_by_kinds key (map (seen_by race.rule) p.ballots)
+          ∙ ap (classes_of nat_eq) (seen_alike key (seen_by race.rule) p.ballots (key_seen e g l));
       sums =
-          let gained = by_kinds (gainer_points e g l) p race.kinds is.kinds in
-          let lost = by_kinds (loser_points e g l) p race.kinds is.kinds in
+          let gained = by_kinds (gainer_points e g l) race is (gainer_seen e g l) in
+          let lost = by_kinds (loser_points e g l) race is (loser_seen e g l) in
           let w = sum_z-difference (gainer_points e g l) (loser_points e g l) p.ballots in
           let s : sum ≡ sum_z (pair_weight e g l) p.ballots = sum_is ∙ ap (λ n. pos n -ℤ pos (add_up (λ k. k.1 * loser_points e g l k.0) race.kinds)) gained
           ∙ ap (λ n. pos (add_up (gainer_points e g l) p.ballots) -ℤ pos n) lost ∙ sym w in

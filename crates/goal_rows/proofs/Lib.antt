@@ -1,8 +1,6 @@
 pub mod Reporting
 pub mod Turning
-pub mod Chosen
 pub mod Bounds
-pub mod Nearest
 pub mod Lists
 pub mod Roots
 pub mod Ways
@@ -11,4 +9,6 @@ pub mod Settled
 pub mod PairTurning
 pub mod Levels
 pub mod FoundPlaces
+pub mod Seen
 pub mod Classed
+pub mod PairPoints

@@ -1,4 +1,5 @@
--- Another allocation of seats than a given one is admitted exactly where one party's next quotient reaches another one's last.
+-- Another allocation of seats than a given one is admitted exactly where one party's next quotient reaches another
+-- one's last.
 use Rattle.std.proofs.Common.{ℕ, Bool, zero, suc, List, [], ◌∷◌, true, false, ◌≡◌, ◌≢◌, ◌<◌, ◌≤◌, ◌⊎◌, ◌+◌, ◌-◌, ◌*◌, ◌∙◌, ◌↔◌, length, replicate, get_or, set, length-set, get_or-set_same, get_or-set_other, ap, sym, refl, subst, inl, inr, arith}
 use Rattle.std.proofs.Math.Nat.{mul-le-mul_left}
 use Rattle.std.proofs.lemmas.Bool.{cases_eq, cases_lt}

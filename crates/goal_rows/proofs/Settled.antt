@@ -1,5 +1,5 @@
--- With a winner reported, another outcome of the pairs is admitted exactly where somebody is preferred to the winner no less than
--- the winner to them.
+-- With a winner reported, another outcome of the pairs is admitted exactly where somebody is preferred to the winner no
+-- less than the winner to them.
 use Rattle.std.proofs.Common.{ℕ, zero, suc, Bool, true, false, Option, Some, None, ◌≡◌, ◌≢◌, ◌<◌, ◌≤◌, ◌⊎◌, ◌+◌, ◌*◌, ◌∙◌, cond, sym, refl, ap, subst, inl, inr, arith}
 use Rattle.std.specs.Prelude.{◌==◌, ◌&&◌, nat_le}
 use Rattle.std.proofs.lemmas.Bool.{cases_eq, cases_lt}

@@ -1,6 +1,6 @@
--- Goals and their rows, after Magrino, Rivest, Shen and Wagner (2011) and Blom, Stuckey, Teague and Tidhar (2016). A row gives each
--- ballot a whole weight, and holds on a list of ballots where the sum of the weights is at least 0. The outcome turns exactly where all
--- rows of some complete goal hold after the replacements.
+-- Goals and their rows, after Magrino, Rivest, Shen and Wagner (2011) and Blom, Stuckey, Teague and Tidhar (2016). A
+-- row gives each ballot a whole weight, and holds on a list of ballots where the sum of the weights is at least 0. The
+-- outcome turns exactly where all rows of some complete goal hold after the replacements.
 use Rattle.std.specs.Prelude.{◌≡◌, ◌≢◌, ℕ, ◌+◌, ◌<◌, ◌≤◌, ◌==◌, ◌&&◌, not, nat_lt, List, [], ◌∷◌, Bool, Contains, All, AllPairs, Option, Some, None, if◌then◌else◌, filter, length, map, slice_index, slice_index_or, ℤ, pos, ◌-ℤ◌, ◌≤ℤ◌}
 use Rattle.std.specs.List.{flat_map, range_with_len}
 use Rattle.mov_base.specs.Sums.{sum_z}
@@ -68,13 +68,15 @@ those c test = filter test (range_with_len 0 c)
 abbrev pub is_seated : List ℕ → ℕ → ℕ → Bool
 is_seated shares g l = not (l == g) && nat_lt 0 (slice_index shares l)
 
--- the goals into which the root is split, of c candidates. Where a winner is reported by scores or by pairs, they are the pairs of
--- each other candidate, ascending, with the winner; under D'Hondt the pairs of each candidate with each other one that has a seat
+-- the goals into which the root is split, of c candidates. Where a winner is reported by scores or by pairs, they are
+-- the pairs of each other candidate, ascending, with the winner; under D'Hondt the pairs of each candidate with each
+-- other one that has a seat
 abbrev pub root_goals : Rule → ℕ → Outcome → List Goal
 root_goals Plurality c (Winner x) = map (λ j. Pair j x) (those c (λ j. not (j == x)))
 root_goals Borda c (Winner x) = map (λ j. Pair j x) (those c (λ j. not (j == x)))
 root_goals Condorcet c (Winner x) = map (λ j. Pair j x) (those c (λ j. not (j == x)))
-root_goals (Dhondt seats) c (Seats shares) = flat_map (λ g. map (λ l. Pair g l) (those c (is_seated shares g))) (range_with_len 0 c)
+root_goals (Dhondt seats) c (Seats shares) =
+    flat_map (λ g. map (λ l. Pair g l) (those c (is_seated shares g))) (range_with_len 0 c)
 root_goals rule c reported = []
 
 -- the rule is decided by pairs of candidates: all but instant runoff, and Condorcet's where there is no winner
@@ -108,7 +110,8 @@ pub record IsElection (e : Election) : Type 0 where
 
 -- ---- covers
 
--- the goals that a goal is split into, where it has a cover: one of them holds where it holds on the way to a complete goal
+-- the goals that a goal is split into, where it has a cover: one of them holds where it holds on the way to a complete
+-- goal
 abbrev pub cover_of : Election → Goal → Option (List Goal)
 cover_of e Root = Some e.roots
 cover_of e (Pair g l) = None
@@ -120,7 +123,8 @@ IsComplete e (Pair g l) = Contains e.roots (Pair g l)
 
 -- the goal at this place of a goal's cover, from 0
 abbrev pub IsKid : Election → Goal → ℕ → Goal → Type 0
-IsKid e goal place kid = (kids : List Goal) × (cover_of e goal ≡ Some kids) × (place < length kids) × (slice_index_or kids place kid ≡ kid)
+IsKid e goal place kid =
+    (kids : List Goal) × (cover_of e goal ≡ Some kids) × (place < length kids) × (slice_index_or kids place kid ≡ kid)
 
 -- a way through covers from a goal to another, by the places of the goals on it
 abbrev pub LeadsTo : Election → Goal → List ℕ → Goal → Type 0

@@ -12,7 +12,8 @@ Turns rule p changes = (o : Outcome) × (IsReported rule p o → ⊥) × Admits 
 
 -- no alteration of fewer than t replacements turns the outcome
 abbrev pub NoneBelow : Rule → Poll → ℕ → Type 0
-NoneBelow rule p t = (changes : List (ℕ × List ℕ)) → IsAlteration p changes → length changes < t → Turns rule p changes → ⊥
+NoneBelow rule p t =
+    (changes : List (ℕ × List ℕ)) → IsAlteration p changes → length changes < t → Turns rule p changes → ⊥
 
 -- k is the least number of replacements that turn the outcome
 pub record IsMargin (rule : Rule) (p : Poll) (k : ℕ) : Type 0 where

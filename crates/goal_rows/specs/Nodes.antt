@@ -1,5 +1,5 @@
--- A node is a goal with a list of limits on the replacements. Each row of the goal and each limit has a value before any replacement,
--- and each replacement changes it by so much.
+-- A node is a goal with a list of limits on the replacements. Each row of the goal and each limit has a value before
+-- any replacement, and each replacement changes it by so much.
 use Rattle.std.specs.Prelude.{ℕ, ◌+◌, ◌≤◌, ◌==◌, List, [], ◌∷◌, ◌++◌, All, if◌then◌else◌, length, map, ℤ, pos, ◌-ℤ◌, ◌≤ℤ◌}
 use Rattle.mov_base.specs.Sums.{add_up, sum_z}
 use Rattle.ballot_form.specs.Alterations.{after}
@@ -46,7 +46,8 @@ abbrev pub swaps_from : ℕ → List (List ℕ) → List (ℕ × List ℕ) → L
 swaps_from i [] changes = []
 swaps_from i (ballot ∷ ballots) [] = []
 swaps_from i (ballot ∷ ballots) (change ∷ changes) =
-    if change.0 == i then (ballot, change.1) ∷ swaps_from (i + 1) ballots changes else swaps_from (i + 1) ballots (change ∷ changes)
+    if change.0 == i then (ballot, change.1) ∷ swaps_from (i + 1) ballots changes
+    else swaps_from (i + 1) ballots (change ∷ changes)
 
 -- the old and the new ballot of each replacement
 abbrev pub swaps_of : Election → List (ℕ × List ℕ) → List (List ℕ × List ℕ)
@@ -74,7 +75,8 @@ kept_row ballots weight = record { start = sum_z weight ballots; change = λ swa
 
 abbrev pub kept_limit : Election → Goal → Limit → Kept
 kept_limit e goal limit =
-    if limit.at_most then record { start = pos limit.value; change = λ swap. pos 0 -ℤ pos (counted_for e goal limit.feature swap) }
+    if limit.at_most then
+    record { start = pos limit.value; change = λ swap. pos 0 -ℤ pos (counted_for e goal limit.feature swap) }
     else record { start = pos 0 -ℤ pos limit.value; change = λ swap. pos (counted_for e goal limit.feature swap) }
 
 -- the rows of the goal, and then the limits

@@ -21,8 +21,8 @@ pub record IsLowestWithGreatest (points : List ℕ → ℕ → ℕ) (p : Poll) (
   pub greatest : HasGreatestScore points p x
   pub lowest : (y : ℕ) → y < x → score_of points p.ballots y < score_of points p.ballots x
 
--- some choice at the ties gives this outcome: a candidate with the greatest score; who is chosen in all pairs of some settling, or
--- nobody where none is in some settling; an allocation of the seats; the last of some legal order
+-- some choice at the ties gives this outcome: a candidate with the greatest score; who is chosen in all pairs of some
+-- settling, or nobody where none is in some settling; an allocation of the seats; the last of some legal order
 abbrev pub Admits : Rule → Poll → Outcome → Type 0
 Admits Plurality p (Winner x) = HasGreatestScore plurality_points p x
 Admits Borda p (Winner x) = HasGreatestScore (borda_points p.c) p x
@@ -32,9 +32,9 @@ Admits (Dhondt seats) p (Seats shares) = IsAllocation (votes_of p) seats shares
 Admits Irv p (Winner x) = (order : List ℕ) × IsLegalOrder p order × IsLast order x
 Admits rule p outcome = ⊥
 
--- the outcome that the rule's own choice at the ties gives: the lowest-numbered with the greatest score; the outcome of the settling
--- that gives tied pairs to the lower number; the seats of the highest quotients, the lower-numbered party's first among equals; the
--- last of the legal order in which the highest-numbered of the least goes out
+-- the outcome that the rule's own choice at the ties gives: the lowest-numbered with the greatest score; the outcome of
+-- the settling that gives tied pairs to the lower number; the seats of the highest quotients, the lower-numbered
+-- party's first among equals; the last of the legal order in which the highest-numbered of the least goes out
 abbrev pub IsReported : Rule → Poll → Outcome → Type 0
 IsReported Plurality p (Winner x) = IsLowestWithGreatest plurality_points p x
 IsReported Borda p (Winner x) = IsLowestWithGreatest (borda_points p.c) p x

@@ -2,7 +2,9 @@
 use Rattle.std.specs.Prelude.{◌≡◌, ℕ, ◌+◌, ◌-◌, List, [], ◌∷◌, map, length, nat_eq, ℤ, pos}
 use Rattle.std.specs.Str.{bytes_eq}
 use Rattle.mov_base.specs.Sums.{sum_z}
-use Rattle.signature_class.specs.Classes.{classes_of}
+use Rattle.ballot_form.specs.declared.rule.Rule.{Rule}
+use Rattle.ballot_form.specs.declared.rule.Rule.TheVariants.{Plurality, Dhondt}
+use Rattle.signature_class.specs.Classes.{classes_of, first_part}
 use Rattle.goal_rows.specs.Elections.{Election}
 use Rattle.goal_rows.specs.Goals.{IsElection, IsReached, gainer_points, loser_points, pair_weight, rows_of}
 use Rattle.goal_rows.specs.declared.goals.Goal.{Goal}
@@ -14,10 +16,16 @@ use Rattle.goal_rows.specs.declared.parts.Race.{Race}
 abbrev pub election_of : Race → Election
 election_of race = record { rule = race.rule; poll = race.roll.now; reported = race.reported; roots = race.roots }
 
--- it is one, and the race has the kinds of its ballots
+-- what a rule looks at on a ballot: under plurality and D'Hondt its first candidate alone
+abbrev pub seen_by : Rule → List ℕ → List ℕ
+seen_by Plurality ballot = first_part ballot
+seen_by (Dhondt seats) ballot = first_part ballot
+seen_by rule ballot = ballot
+
+-- it is one, and the race has the kinds of its ballots, as far as the rule looks at them
 pub record IsRace (race : Race) : Type 0 where
   pub election : IsElection (election_of race)
-  pub kinds : race.kinds ≡ classes_of bytes_eq race.roll.now.ballots
+  pub kinds : race.kinds ≡ classes_of bytes_eq (map (seen_by race.rule) race.roll.now.ballots)
 
 -- the key of a ballot under a goal: under a pair its weight, and 1,024 more. The root has no classes
 abbrev pub key_of : Election → Goal → List ℕ → ℕ
@@ -34,7 +42,8 @@ abbrev pub lone_weight : Election → Goal → ℤ
 lone_weight e Root = pos 0
 lone_weight e (Pair g l) = pair_weight e g l (g ∷ [])
 
--- the classes of the ballots under the goal, the value of each of its rows, the number of ballots, and the weight of the gainer alone
+-- the classes of the ballots under the goal, the value of each of its rows, the number of ballots, and the weight of
+-- the gainer alone
 pub record IsGroundOf (e : Election) (start : Ground) : Type 0 where
   pub classes : start.classes ≡ classes_of nat_eq (keys_of e start.goal)
   pub sums : start.sums ≡ map (λ weight. sum_z weight e.poll.ballots) (rows_of e start.goal)

@@ -14,7 +14,8 @@ use mov_base::Memory;
 use signature_class::Classes;
 use std::alloc::Global;
 
-/// The goal's classes of ballots, the value of each of its rows, the number of ballots, and the weight of the gainer alone.
+/// The goal's classes of ballots, the value of each of its rows, the number of ballots, and the weight of the gainer
+/// alone.
 pub fn ground(alloc: Global, race: &Race<'_>, goal: &Goal) -> Result<Ground, Memory>
     requires race { IsRace race.now }
     ensures goal { IfOk result (λ start. start.goal ≡ goal.now) }
@@ -86,18 +87,29 @@ fn pair_classes(
     loser: Cand,
 ) -> Result<Classes, Memory>
     requires few { add_up (λ k. k.1) race.now.kinds ≤ MOST_BALLOTS }
-    ensures { IfOk result (λ classes. classes ≡ add_all nat_eq [] (keyed (key_of (election_of race.now) (Pair gainer loser)) race.now.kinds)) }
+    ensures { IfOk result (λ classes.
+        classes ≡ add_all nat_eq [] (keyed (key_of (election_of race.now) (Pair gainer loser)) race.now.kinds)) }
 {
     let mut classes = Classes::new(alloc);
     for i in 0..race.kinds.len() {
-        let key = key(race, gainer, loser, race.kinds.row(i));
+        let key = pair_key(race, gainer, loser, race.kinds.row(i));
         classes.add(key, race.kinds.count(i))?;
     }
     Ok(classes)
 }
 
+/// The key of a ballot under a goal: its class in the goal's ground.
+pub fn key(race: &Race<'_>, goal: &Goal, row: &[Cand]) -> u64
+    ensures { result ≡ key_of (election_of race.now) goal.now row.now }
+{
+    match goal {
+        Goal::Root => 0,
+        Goal::Pair(gainer, loser) => pair_key(race, *gainer, *loser, row),
+    }
+}
+
 /// The key of a ballot under the pair.
-fn key(race: &Race<'_>, gainer: Cand, loser: Cand, row: &[Cand]) -> u64
+fn pair_key(race: &Race<'_>, gainer: Cand, loser: Cand, row: &[Cand]) -> u64
     ensures { result ≡ key_of (election_of race.now) (Pair gainer loser) row.now }
 {
     (for_gainer(race, gainer, loser, row) + 1024).saturating_sub(for_loser(
@@ -109,8 +121,10 @@ fn key(race: &Race<'_>, gainer: Cand, loser: Cand, row: &[Cand]) -> u64
 #[tactic(auto, using(crate::proofs::Classed::counted_more, crate::proofs::Classed::kinds_more, crate::proofs::Classed::kinds_few))]
 fn counts(race: &Race<'_>, gainer: Cand, loser: Cand) -> (u64, u64)
     requires few { add_up (λ k. k.1) race.now.kinds ≤ MOST_BALLOTS }
-    ensures gained { result.0 ≡ add_up (λ k. k.1 * gainer_points (election_of race.now) gainer loser k.0) race.now.kinds }
-    ensures lost { result.1 ≡ add_up (λ k. k.1 * loser_points (election_of race.now) gainer loser k.0) race.now.kinds }
+    ensures gained { result.0
+        ≡ add_up (λ k. k.1 * gainer_points (election_of race.now) gainer loser k.0) race.now.kinds }
+    ensures lost { result.1
+        ≡ add_up (λ k. k.1 * loser_points (election_of race.now) gainer loser k.0) race.now.kinds }
     ensures few_gained { result.0 ≤ 65536000000 }
     ensures few_lost { result.1 ≤ 65536000000 }
 {

@@ -20,7 +20,8 @@ ghost use Rattle.dhondt_seats.specs.Seats.{IsAllocation, seats_in_all};
 
 /// There is one reported outcome at most.
 pub fn a_reported_outcome_is_one()
-    ensures { (rule : ARule) (p : Poll) (o other : AnOutcome) → IsReported rule p o → IsReported rule p other → o ≡ other }
+    ensures { (rule : ARule) (p : Poll) (o other : AnOutcome) →
+        IsReported rule p o → IsReported rule p other → o ≡ other }
 {}
 
 /// There is one margin at most.
@@ -34,9 +35,9 @@ pub fn plurality_turns_where_a_challenger_is_level()
         Turns Plurality p changes ↔ ((j : ℕ) × IsLevel plurality_points (after p changes) x j) }
 {}
 
-/// Where an alteration brings a gainer level with a loser, the largest gains of as many ballots make up what the gainer was behind.
-/// A ballot may count any number for each of the two, if no valid ballot counts for the gainer more than `top` beyond what it counts
-/// for the loser.
+/// Where an alteration brings a gainer level with a loser, the largest gains of as many ballots make up what the gainer
+/// was behind. A ballot may count any number for each of the two, if no valid ballot counts for the gainer more than
+/// `top` beyond what it counts for the loser.
 pub fn replacements_bring_at_most_the_largest_gains()
     ensures { (top : ℕ) (plus minus : List ℕ → ℕ) (p : Poll) (changes : List (ℕ × List ℕ)) →
         ((ballot : List ℕ) → IsValidBallot p.c ballot → plus ballot ≤ top + minus ballot) → IsAlteration p changes →
@@ -44,34 +45,39 @@ pub fn replacements_bring_at_most_the_largest_gains()
         Reaches (deficit_of plus minus p.ballots) (map (gain_of top plus minus) p.ballots) (length changes) }
 {}
 
-/// Another allocation of seats than a given one is admitted exactly where the next quotient of some party reaches the last one of
-/// another party that has a seat.
+/// Another allocation of seats than a given one is admitted exactly where the next quotient of some party reaches the
+/// last one of another party that has a seat.
 pub fn other_seats_are_admitted_where_a_party_gains()
-    ensures { (votes shares : List ℕ) (s : ℕ) → 1 ≤ length votes → length shares ≡ length votes → seats_in_all shares ≡ s →
+    ensures { (votes shares : List ℕ) (s : ℕ) →
+        1 ≤ length votes → length shares ≡ length votes → seats_in_all shares ≡ s →
         ((other : List ℕ) × (other ≢ shares) × IsAllocation votes s other) ↔ ((g l : ℕ) × IsSeatGain votes shares g l) }
 {}
 
-/// Under the rules that are decided by pairs the outcome turns exactly where the rows of some complete goal hold after the
-/// replacements.
+/// Under the rules that are decided by pairs the outcome turns exactly where the rows of some complete goal hold after
+/// the replacements.
 pub fn the_outcome_turns_where_a_pair_holds()
     ensures { (e : Election) (changes : List (ℕ × List ℕ)) → IsElection e → IsDecidedByPairs e.rule e.reported →
         e.roots ≡ root_goals e.rule e.poll.c e.reported →
-        Turns e.rule e.poll changes ↔ ((goal : AGoal) × IsComplete e goal × Holds e goal (after e.poll changes).ballots) }
+        Turns e.rule e.poll changes
+        ↔ ((goal : AGoal) × IsComplete e goal × Holds e goal (after e.poll changes).ballots) }
 {}
 
 /// The root goals of a contest with its reported outcome are goals that an election may have below the root.
 pub fn the_root_goals_are_roots()
-    ensures { (e : Election) → IsPoll e.poll → IsReported e.rule e.poll e.reported → e.roots ≡ root_goals e.rule e.poll.c e.reported → AreRoots e }
+    ensures { (e : Election) → IsPoll e.poll → IsReported e.rule e.poll e.reported →
+        e.roots ≡ root_goals e.rule e.poll.c e.reported → AreRoots e }
 {}
 
 /// A complete goal is reached from the root through covers in just one way.
 pub fn a_complete_goal_is_reached_in_one_way()
-    ensures { (e : Election) (goal : AGoal) → AreRoots e → IsComplete e goal → (way : List ℕ) × IsOnlyWay e Root way goal }
+    ensures { (e : Election) (goal : AGoal) → AreRoots e → IsComplete e goal →
+        (way : List ℕ) × IsOnlyWay e Root way goal }
 {}
 
 /// Where a complete goal holds, every goal on the way to it from the root holds too.
 pub fn goals_on_the_way_hold()
-    ensures { (e : Election) (between goal : AGoal) (before behind : List ℕ) (ballots : List (List ℕ)) → IsComplete e goal →
+    ensures { (e : Election) (between goal : AGoal) (before behind : List ℕ) (ballots : List (List ℕ)) →
+        IsComplete e goal →
         LeadsTo e Root before between → LeadsTo e between behind goal → Holds e goal ballots → Holds e between ballots }
 {}
 

@@ -1,12 +1,12 @@
 //! Outcomes, turning, margins and goals.
 //!
-//! In `specs/` stand the definitions of an admitted outcome, of the reported one, of turning the outcome, and of the margin, for
-//! every rule alike, and goals with their rows: what replacements are to reach so that the outcome turns. `reported` answers the
-//! reported outcome of every rule. Goals are there so far for the rules that are decided by pairs of candidates, which are all but
-//! instant runoff and Condorcet's where there is no winner: `race` promises that the outcome turns exactly where all rows of some
-//! complete goal hold; `cover` gives the goals that a goal is split into, and each complete goal is reached from the root in just one
-//! way; `ground` keeps what is known of a goal before any replacement. The crate stands on `ballot_form`, on `signature_class` and on
-//! the crates that count.
+//! In `specs/` stand the definitions of an admitted outcome, of the reported one, of turning the outcome, and of the
+//! margin, for every rule alike, and goals with their rows: what replacements are to reach so that the outcome turns.
+//! `reported` answers the reported outcome of every rule. Goals are there so far for the rules that are decided by
+//! pairs of candidates, which are all but instant runoff and Condorcet's where there is no winner: `race` promises that
+//! the outcome turns exactly where all rows of some complete goal hold; `cover` gives the goals that a goal is split
+//! into, and each complete goal is reached from the root in just one way; `ground` keeps what is known of a goal before
+//! any replacement. The crate stands on `ballot_form`, on `signature_class` and on the crates that count.
 #![tactic(auto)]
 
 mod goals;
@@ -19,7 +19,7 @@ mod races;
 mod rows;
 
 pub use goals::{Goal, GoalList};
-pub use grounds::ground;
+pub use grounds::{ground, key};
 pub use laws::{
     a_complete_goal_is_reached_in_one_way, a_margin_is_one_number,
     a_reached_goal_is_the_root_or_a_root_goal, a_reported_outcome_is_one, goals_on_the_way_hold,

@@ -12,9 +12,10 @@ use mov_base::Memory;
 use score_count::{borda, plurality, score_winner};
 use std::alloc::Global;
 
-/// The outcome of the rule with its own choice at the ties. Under plurality and Borda it is the lowest-numbered of those with the
-/// greatest score; under Condorcet a tied pair goes to the lower number; under D'Hondt the lower-numbered party is served first among
-/// equal quotients; under instant runoff the highest-numbered of those with the least count goes out.
+/// The outcome of the rule with its own choice at the ties. Under plurality and Borda it is the lowest-numbered of
+/// those with the greatest score; under Condorcet a tied pair goes to the lower number; under D'Hondt the
+/// lower-numbered party is served first among equal quotients; under instant runoff the highest-numbered of those with
+/// the least count goes out.
 pub fn reported(alloc: Global, rule: Rule, roll: &Roll) -> Result<Outcome, Memory>
     requires rule { IsRule rule }
     ensures reported { IfOk result (λ outcome. IsReported rule roll.now outcome) }

@@ -15,7 +15,8 @@ pub struct Race<'a> {
     pub rule: Rule,
     /// The ballots.
     pub roll: &'a Roll,
-    /// The distinct ballots, each with how many there are of it.
+    /// The distinct ballots as far as the rule looks at them, each with how many there are of it: under plurality and
+    /// D'Hondt their first candidates alone, and else the whole ballots.
     pub kinds: Kinds<'a>,
     /// The reported outcome.
     pub reported: Outcome,

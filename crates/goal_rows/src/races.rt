@@ -7,7 +7,9 @@ ghost use Rattle.ballot_form.specs.declared.outcome.Outcome.{Outcome as AnOutcom
 ghost use Rattle.goal_rows.specs.Goals.{Holds, IsComplete, IsDecidedByPairs, cover_of, is_seated as seated_test, root_goals, rows_of, those};
 ghost use Rattle.goal_rows.specs.Margins.{Turns};
 ghost use Rattle.goal_rows.specs.Outcomes.{IsReported};
-ghost use Rattle.goal_rows.specs.Races.{IsRace, election_of};
+ghost use Rattle.goal_rows.specs.Races.{IsRace, election_of, seen_by};
+ghost use Rattle.signature_class.specs.Classes.{classes_of};
+ghost use Rattle.std.specs.Str.{bytes_eq};
 ghost use Rattle.goal_rows.specs.declared.goals.Goal.{Goal as AGoal};
 ghost use Rattle.goal_rows.specs.declared.goals.Goal.TheVariants.{Pair};
 
@@ -17,12 +19,13 @@ use crate::parts::Race;
 use crate::points::seats_at;
 use ballot_form::{Cand, Outcome, Roll, Rule};
 use mov_base::Memory;
-use signature_class::kinds;
+use signature_class::parts::Kinds;
+use signature_class::{first_kinds, kinds};
 use std::alloc::Global;
 
-/// The contest under the rule: its kinds of ballots, the reported outcome, and the root goals. Where a winner is reported by scores or
-/// by pairs, these are the pairs of each other candidate, ascending, with the winner; under D'Hondt the pairs of each candidate with
-/// each other one that has a seat, by the gainer, then the loser.
+/// The contest under the rule: its kinds of ballots, the reported outcome, and the root goals. Where a winner is
+/// reported by scores or by pairs, these are the pairs of each other candidate, ascending, with the winner; under
+/// D'Hondt the pairs of each candidate with each other one that has a seat, by the gainer, then the loser.
 pub fn race<'a>(alloc: Global, rule: Rule, roll: &'a Roll) -> Result<Race<'a>, Memory>
     requires rule { IsRule rule }
     requires pairs { (o : AnOutcome) → IsReported rule roll.now o → IsDecidedByPairs rule o }
@@ -32,9 +35,10 @@ pub fn race<'a>(alloc: Global, rule: Rule, roll: &'a Roll) -> Result<Race<'a>, M
     ensures race { IfOk result IsRace }
     // The outcome turns exactly where all rows of some complete goal hold after the replacements.
     ensures turning { IfOk result (λ race. (changes : List (ℕ × List ℕ)) → Turns rule roll.now changes
-        ↔ ((goal : AGoal) × IsComplete (election_of race) goal × Holds (election_of race) goal (after roll.now changes).ballots)) }
+        ↔ ((goal : AGoal) × IsComplete (election_of race) goal
+        × Holds (election_of race) goal (after roll.now changes).ballots)) }
 {
-    let kinds = kinds(alloc, roll)?;
+    let kinds = kinds_seen(alloc, rule, roll)?;
     let reported = reported(alloc, rule, roll)?;
     let roots = roots_of(alloc, rule, roll.candidates(), &reported)?;
     Ok(Race {
@@ -44,6 +48,16 @@ pub fn race<'a>(alloc: Global, rule: Rule, roll: &'a Roll) -> Result<Race<'a>, M
         reported,
         roots,
     })
+}
+
+/// The kinds of the ballots as far as the rule looks at them.
+fn kinds_seen<'a>(alloc: Global, rule: Rule, roll: &'a Roll) -> Result<Kinds<'a>, Memory>
+    ensures { IfOk result (λ kinds. kinds ≡ classes_of bytes_eq (map (seen_by rule) roll.now.ballots)) }
+{
+    match rule {
+        Rule::Plurality | Rule::Dhondt(_) => first_kinds(alloc, roll),
+        Rule::Borda | Rule::Condorcet | Rule::Irv => kinds(alloc, roll),
+    }
 }
 
 /// The root goals of the rule with the reported outcome.
@@ -74,7 +88,8 @@ fn others(alloc: Global, c: u8, x: Cand) -> Result<GoalList, Memory>
 
 /// The pairs of each candidate with each other one that has a seat.
 fn seated(alloc: Global, c: u8, shares: &[u16]) -> Result<GoalList, Memory>
-    ensures { IfOk result (λ roots. roots ≡ flat_map (λ g. map (λ l. Pair g l) (those c (seated_test shares.now g))) (range_with_len 0 c)) }
+    ensures { IfOk result (λ roots.
+        roots ≡ flat_map (λ g. map (λ l. Pair g l) (those c (seated_test shares.now g))) (range_with_len 0 c)) }
 {
     let mut roots = GoalList::new(alloc);
     for g in 0..c {

@@ -12,7 +12,8 @@ use ballot_form::{Cand, Roll};
 /// As many rows as any goal has: a goal of 40 places has one for each two.
 pub const MOST_ROWS: usize = 780;
 
-/// Whether all rows of the complete goal hold on the ballots. The scratch has room for the rows of every goal. It takes no memory.
+/// Whether all rows of the complete goal hold on the ballots. The scratch has room for the rows of every goal. It takes
+/// no memory.
 #[tactic(auto, using(crate::proofs::Levels::level_holds))]
 pub fn rows_hold(race: &Race<'_>, after: &Roll, goal: &Goal, scratch: &mut [i64]) -> bool
     requires complete { IsComplete (election_of race.now) goal.now }

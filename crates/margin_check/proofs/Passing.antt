@@ -11,7 +11,8 @@ use Rattle.bound_tree.proofs.Shapes.{plain_Split, plain_Branch, plain_Cut}
 use Rattle.signature_class.specs.Classes.{add_all, add_class, classes_of}
 use Rattle.signature_class.proofs.Counts.{classes_by_kinds, regrouped}
 use Rattle.goal_rows.specs.Elections.{Election, Node}
-use Rattle.goal_rows.specs.Races.{IsGroundOf, IsRace, election_of, key_of, keys_of}
+use Rattle.goal_rows.specs.Races.{IsGroundOf, IsRace, election_of, key_of, keys_of, seen_by}
+use Rattle.goal_rows.proofs.Seen.{key_seen, seen_alike}
 use Rattle.goal_rows.specs.declared.goals.Goal.{Goal}
 use Rattle.goal_rows.specs.declared.goals.Goal.TheVariants.{Root, Pair}
 use Rattle.goal_rows.specs.declared.parts.Ground.{Ground}
@@ -46,9 +47,13 @@ room_for race start room is values enough = by start.goal (ap length values.clas
     by : (goal : Goal) → length start.classes ≡ length (classes_of nat_eq (keys_of (election_of race) goal)) → length start.classes ≤ room
     by Root many = omega (arith, many)
     by (Pair g l) many =
-        let f = keyed_few (key_of (election_of race) (Pair g l)) race.roll.now.ballots in
-        let k : length race.kinds ≡ length (classes_of bytes_eq race.roll.now.ballots) = ap length is.kinds in
-        omega (arith, many, f, k, enough)
+        let key = key_of (election_of race) (Pair g l) in
+        let rows = map (seen_by race.rule) race.roll.now.ballots in
+        let f = keyed_few key rows in
+        let s : length (classes_of nat_eq (map key rows)) ≡ length (classes_of nat_eq (map key race.roll.now.ballots)) =
+        ap (λ ks. length (classes_of nat_eq ks)) (seen_alike key (seen_by race.rule) race.roll.now.ballots (key_seen (election_of race) g l)) in
+        let k : length race.kinds ≡ length (classes_of bytes_eq rows) = ap length is.kinds in
+        omega (arith, many, f, s, k, enough)
 
 -- ---- what is asked of a node
 

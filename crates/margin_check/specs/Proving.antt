@@ -5,17 +5,17 @@ use Rattle.bound_tree.specs.Plain.{Plain, Kids, Split, Branch, Cut}
 use Rattle.bound_tree.specs.Plain as trees
 use Rattle.goal_rows.specs.Elections.{Election, Node}
 use Rattle.goal_rows.specs.Goals.{cover_of, rows_of}
-use Rattle.goal_rows.specs.Nodes.{IsFeatureOf, with_limit, without_limits}
+use Rattle.goal_rows.specs.Nodes.{IsFeatureOf, without_limits}
 use Rattle.goal_rows.specs.declared.goals.Goal.{Goal}
 use Rattle.dual_bound.specs.CutTest.{Cuts}
-use Rattle.margin_check.specs.Visits.{visits, low_limit, high_limit}
+use Rattle.margin_check.specs.Visits.{visits, low_half, high_half}
 
 -- how many numbers a cut has: one for each row of the goal, and one for each limit
 abbrev pub number_count : Election → Node → ℕ
 number_count e node = length (rows_of e node.goal) + length node.limits
 
--- a split stands at a goal with a cover, without limits, and has as many kids as the cover has goals; a branch names a feature of its
--- goal; a cut has a number for each row and each limit
+-- a split stands at a goal with a cover, without limits, and has as many kids as the cover has goals; a branch names a
+-- feature of its goal; a cut has a number for each row and each limit
 abbrev pub IsShaped : Election → Node → Plain → Type 0
 IsShaped e node (Split kids) = (node.limits ≡ []) × (option_map length (cover_of e node.goal) ≡ Some (kid_count kids))
 IsShaped e node (Branch feature value low high) = IsFeatureOf e node.goal feature
@@ -33,8 +33,8 @@ abbrev mutual
   Proves e t node (Split kids) =
       (node.limits ≡ []) × ((goals : List Goal) × (cover_of e node.goal ≡ Some goals) × ProveAll e t goals kids)
   Proves e t node (Branch feature value low high) = IsFeatureOf e node.goal feature
-      × Proves e t (with_limit node (low_limit feature value)) low
-      × Proves e t (with_limit node (high_limit feature value)) high
+      × Proves e t (low_half node feature value) low
+      × Proves e t (high_half node feature value) high
   Proves e t node (Cut multipliers) = (length multipliers ≡ number_count e node) × Cuts e node multipliers t
 
   -- each tree proves t for its goal, without limits

@@ -17,7 +17,8 @@ use Rattle.cert_text.specs.declared.cert.GoalText.TheVariants.{Pair}
 use Rattle.margin_check.specs.Proving.{IsShaped, Passes}
 use Rattle.margin_check.specs.Visits.{Visit, visits}
 
--- the election that a certificate speaks of: the ballots under its rule, with its reported outcome and the root goals of that
+-- the election that a certificate speaks of: the ballots under its rule, with its reported outcome and the root goals
+-- of that
 abbrev pub election_by : Poll → Cert → Election
 election_by p cert =
     record { rule = cert.rule; poll = p; reported = cert.reported; roots = root_goals cert.rule p.c cert.reported }
@@ -26,7 +27,8 @@ election_by p cert =
 abbrev pub HasSizes : Poll → Cert → Type 0
 HasSizes p cert = (cert.c ≡ p.c) × (cert.ballots ≡ length p.ballots)
 
--- the goal that a certificate names. An order and a cover are goals of other rules, which aren't there yet: they name none
+-- the goal that a certificate names. An order and a cover are goals of other rules, which aren't there yet: they name
+-- none
 abbrev pub named_goal : Option GoalText → Option Goal
 named_goal (Some (Pair gainer loser)) = Some (goals.Pair gainer loser)
 named_goal text = None
@@ -66,7 +68,8 @@ HasShape p cert = All (λ visit. IsShaped (election_by p cert) visit.node visit.
 
 abbrev pub HasCuts : Poll → Cert → Type 0
 HasCuts p cert =
-    All (λ visit. Passes (election_by p cert) (level_of (length p.ballots) cert.claim) visit.node visit.tree) (cert_visits p cert)
+    All (λ visit. Passes (election_by p cert) (level_of (length p.ballots) cert.claim) visit.node visit.tree)
+    (cert_visits p cert)
 
 -- a certificate that is valid for a contest. The goals of the rules that aren't decided by pairs aren't there yet
 pub record IsValidCert (p : Poll) (cert : Cert) : Type 0 where

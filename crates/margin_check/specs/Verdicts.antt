@@ -65,7 +65,9 @@ Part NumbersDisagree p cert = HasOrder cert.claim
 
 -- the reasons in the order in which their parts are judged
 abbrev pub reasons : List Reason
-reasons = NotBuilt ∷ HeadDiffers ∷ ReportedDiffers ∷ BadAlteration ∷ ClaimFails ∷ ShapeDiffers ∷ CutFails ∷ NumbersDisagree ∷ []
+reasons =
+    NotBuilt ∷ HeadDiffers ∷ ReportedDiffers ∷ BadAlteration ∷ ClaimFails ∷ ShapeDiffers ∷ CutFails
+    ∷ NumbersDisagree ∷ []
 
 -- those that come before this one
 abbrev pub earlier : Reason → List Reason
@@ -83,7 +85,8 @@ place_of (NotAscending place) = place
 place_of (BadBallot place) = place
 place_of Memory = 0
 
--- the line in which the tree begins: after the head, and where something turns the outcome the goal and its replacements
+-- the line in which the tree begins: after the head, and where something turns the outcome the goal and its
+-- replacements
 abbrev pub tree_line : ℕ → Claim → ℕ
 tree_line puts (Margin k) = 7 + puts
 tree_line puts Fixed = 6
@@ -98,13 +101,15 @@ abbrev pub Fails : Reason → Poll → Cert → ℕ → Type 0
 Fails NotBuilt p cert line = (IsJudged cert.rule → ⊥) × (line ≡ 2)
 Fails HeadDiffers p cert line = (HasSizes p cert → ⊥) × (line ≡ 3)
 Fails ReportedDiffers p cert line = (IsReported cert.rule p cert.reported → ⊥) × (line ≡ 4)
-Fails BadAlteration p cert line = (fault : AlterFault) × IsFirstFault p cert.puts (Some fault) × (line ≡ 7 + place_of fault)
+Fails BadAlteration p cert line =
+    (fault : AlterFault) × IsFirstFault p cert.puts (Some fault) × (line ≡ 7 + place_of fault)
 Fails ClaimFails p cert line = (IsTurned p cert → ⊥) × (line ≡ 6)
 Fails ShapeDiffers p cert line = (number : ℕ)
     × IsFirstWithout (λ visit. IsShaped (election_by p cert) visit.node visit.tree) (cert_visits p cert) number
     × (line ≡ node_line cert number)
 Fails CutFails p cert line = (number : ℕ)
-    × IsFirstWithout (λ visit. Passes (election_by p cert) (level_of (length p.ballots) cert.claim) visit.node visit.tree)
+    × IsFirstWithout
+    (λ visit. Passes (election_by p cert) (level_of (length p.ballots) cert.claim) visit.node visit.tree)
     (cert_visits p cert) number
     × (line ≡ node_line cert number)
 Fails NumbersDisagree p cert line = (HasOrder cert.claim → ⊥) × (line ≡ 5)

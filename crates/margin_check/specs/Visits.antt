@@ -24,19 +24,25 @@ low_limit feature value = record { feature = feature; at_most = true; value = va
 abbrev pub high_limit : Feature → ℕ → Limit
 high_limit feature value = record { feature = feature; at_most = false; value = value + 1 }
 
+abbrev pub low_half : Node → Feature → ℕ → Node
+low_half node feature value = with_limit node (low_limit feature value)
+
+abbrev pub high_half : Node → Feature → ℕ → Node
+high_half node feature value = with_limit node (high_limit feature value)
+
 -- the goals of a split's kids: those of the cover
 abbrev pub kid_goals : Option (List Goal) → List Goal
 kid_goals None = []
 kid_goals (Some goals) = goals
 
--- the nodes in preorder: a split's kids have the goals of the cover in order, without limits, and a branch's halves have its goal and
--- its limits with one more at the end
+-- the nodes in preorder: a split's kids have the goals of the cover in order, without limits, and a branch's halves
+-- have its goal and its limits with one more at the end
 abbrev mutual
   pub visits : Election → Node → Plain → List Visit
   visits e node (Split kids) =
       visit_of node (Split kids) ∷ visits_among e (kid_goals (cover_of e node.goal)) kids
   visits e node (Branch feature value low high) = visit_of node (Branch feature value low high)
-      ∷ (visits e (with_limit node (low_limit feature value)) low ++ visits e (with_limit node (high_limit feature value)) high)
+      ∷ (visits e (low_half node feature value) low ++ visits e (high_half node feature value) high)
   visits e node (Cut multipliers) = visit_of node (Cut multipliers) ∷ []
 
   pub visits_among : Election → List Goal → Kids → List Visit

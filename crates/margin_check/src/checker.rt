@@ -14,11 +14,12 @@ use cert_text::Cert;
 use mov_base::Memory;
 use std::alloc::Global;
 
-/// The verdict on a certificate for a contest, whoever made it. It is valid where all parts of validity hold, and what it claims is then
-/// so; otherwise the first part that fails is told with its line, from 1.
+/// The verdict on a certificate for a contest, whoever made it. It is valid where all parts of validity hold, and what
+/// it claims is then so; otherwise the first part that fails is told with its line, from 1.
 pub fn check(alloc: Global, contest: &Contest, cert: &Cert) -> Result<Verdict, Memory>
     requires printable { IsPrintable cert.now }
-    ensures valid { IfOk result (λ verdict. (verdict ≡ Valid) ↔ (IsJudged cert.now.rule × IsValidCert contest.now.roll cert.now)) }
+    ensures valid { IfOk result (λ verdict.
+        (verdict ≡ Valid) ↔ (IsJudged cert.now.rule × IsValidCert contest.now.roll cert.now)) }
     ensures refused { IfOk result (λ verdict. (reason : AReason) (line : ℕ) →
         (verdict ≡ No reason line) ↔ IsRefusal contest.now.roll cert.now reason line) }
     ensures claim { IfOk result (λ verdict. verdict ≡ Valid → ClaimIsTrue contest.now.roll cert.now) }

@@ -17,8 +17,8 @@ pub(crate) fn has_sizes(roll: &Roll, cert: &Cert) -> bool
     cert.c == roll.candidates() && cert.ballots == roll.len()
 }
 
-/// Whether the claim's goal is complete and holds on the ballots after the replacements; nothing is asked where it is that nothing
-/// turns the outcome.
+/// Whether the claim's goal is complete and holds on the ballots after the replacements; nothing is asked where it is
+/// that nothing turns the outcome.
 pub(crate) fn claim_holds(
     race: &Race<'_>,
     altered: &Roll,
@@ -57,7 +57,8 @@ fn is_met(race: &Race<'_>, altered: &Roll, text: &Option<GoalText>) -> bool
 fn goal_is_met(race: &Race<'_>, altered: &Roll, goal: &Goal) -> bool
     requires same_sizes { altered.now.c ≡ race.now.roll.now.c }
     requires same_length { length altered.now.ballots ≡ length race.now.roll.now.ballots }
-    ensures { IsTrue result ↔ (IsComplete (election_of race.now) goal.now × Holds (election_of race.now) goal.now altered.now.ballots) }
+    ensures { IsTrue result
+        ↔ (IsComplete (election_of race.now) goal.now × Holds (election_of race.now) goal.now altered.now.ballots) }
 {
     let mut scratch = [0i64; MOST_ROWS];
     is_complete(race, goal) && rows_hold(race, altered, goal, &mut scratch)

@@ -25,7 +25,8 @@ use goal_rows::{Goal, ground, race};
 use mov_base::Memory;
 use std::alloc::{AllocError, Global};
 
-/// The verdict on the certificate for these ballots: each part is asked after in its order, and the first that fails is the reason.
+/// The verdict on the certificate for these ballots: each part is asked after in its order, and the first that fails is
+/// the reason.
 pub(crate) fn judge(alloc: Global, roll: &Roll, cert: &Cert) -> Result<Verdict, Memory>
     requires printable { IsPrintable cert.now }
     ensures { IfOk result (Judges roll.now cert.now) }
@@ -99,10 +100,12 @@ fn walk_tree(
     scratch: &mut Scratch,
 ) -> Result<End, Memory>
     requires race { IsRace race.now }
-    requires known { All (IsKnown (election_of race.now) asked) (visits (election_of race.now) (without_limits Root) tree.now) }
+    requires known { All (IsKnown (election_of race.now) asked)
+        (visits (election_of race.now) (without_limits Root) tree.now) }
     requires room { length race.now.kinds ≤ scratch.old }
     ensures room { scratch.new ≡ scratch.old }
-    ensures end { IfOk result (EndsAt (Gives (election_of race.now) asked) 0 (visits (election_of race.now) (without_limits Root) tree.now)) }
+    ensures end { IfOk result (EndsAt (Gives (election_of race.now) asked) 0
+        (visits (election_of race.now) (without_limits Root) tree.now)) }
     ensures few { IfOk result (IsWithin 100000) }
 {
     let _ = tree.nodes();

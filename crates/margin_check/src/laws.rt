@@ -18,8 +18,8 @@ pub fn shape_and_cuts_are_a_proof()
     ensures { (e : Election) (t : ℕ) (node : Node) (tree : Plain) → IsProof e t node tree ↔ Proves e t node tree }
 {}
 
-/// The nodes that are judged are those of the tree in preorder, up to the first one that hasn't its shape: its place among them is its
-/// number in the tree, and where all have their shape they are all of its nodes.
+/// The nodes that are judged are those of the tree in preorder, up to the first one that hasn't its shape: its place
+/// among them is its number in the tree, and where all have their shape they are all of its nodes.
 pub fn visits_are_the_nodes_in_preorder()
     ensures all { (e : Election) (node : Node) (tree : Plain) →
         All (λ visit. IsShaped e visit.node visit.tree) (visits e node tree) →
@@ -31,7 +31,8 @@ pub fn visits_are_the_nodes_in_preorder()
 
 /// There is one verdict on a certificate: it is valid, or refused for one reason, in one line.
 pub fn a_verdict_is_one()
-    ensures { (p : Poll) (cert : ACert) (verdict other : AVerdict) → Judges p cert verdict → Judges p cert other → verdict ≡ other }
+    ensures { (p : Poll) (cert : ACert) (verdict other : AVerdict) →
+        Judges p cert verdict → Judges p cert other → verdict ≡ other }
 {}
 
 /// What a valid certificate claims is so, whoever made it.

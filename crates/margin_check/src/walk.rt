@@ -8,7 +8,7 @@ ghost use Rattle.goal_rows.specs.Nodes.{AreLimits, IsFeatureOf, node_of, with_li
 ghost use Rattle.goal_rows.specs.Races.{IsGroundIn, IsRace, election_of};
 ghost use Rattle.dual_bound.specs.CutTest.{Cuts};
 ghost use Rattle.margin_check.specs.Proving.{IsShaped, number_count};
-ghost use Rattle.margin_check.specs.Visits.{high_limit, low_limit, visit_of, visits, visits_among};
+ghost use Rattle.margin_check.specs.Visits.{high_half, low_half, visit_of, visits, visits_among};
 ghost use Rattle.margin_check.specs.Walks.{EndsAt, Gives, IsKnown};
 
 use bound_tree::{Multipliers, Tree};
@@ -37,8 +37,8 @@ pub(crate) enum End {
     Stopped(u32),
 }
 
-/// Walks over the nodes of a tree, whose topmost node has this number, the goal of this ground, and these limits. The limits are the
-/// same afterwards, unless memory ran out.
+/// Walks over the nodes of a tree, whose topmost node has this number, the goal of this ground, and these limits. The
+/// limits are the same afterwards, unless memory ran out.
 #[cycle(walk)]
 #[tactic(auto, using(bound_tree::proofs::Shapes::size_Split, crate::proofs::Nodes::no_branch, crate::proofs::Nodes::walk_stops, crate::proofs::Nodes::walk_over_cut))]
 pub(crate) fn walk(
@@ -150,19 +150,20 @@ fn walk_halves(
 ) -> Result<End, Memory>
     requires race { IsRace race.now }
     requires start { IsGroundIn (election_of race.now) start.now }
-    requires low { AreLimits (election_of race.now) (with_limit (node_of start.now limits.old.items) (low_limit feature value)) }
-    requires high { AreLimits (election_of race.now) (with_limit (node_of start.now limits.old.items) (high_limit feature value)) }
+    requires low { AreLimits (election_of race.now) (low_half (node_of start.now limits.old.items) feature value) }
+    requires high { AreLimits (election_of race.now) (high_half (node_of start.now limits.old.items) feature value) }
     requires few { number + size (plain_of low.now) + size (plain_of high.now) < 2 ^ 32 }
     requires low_known { All (IsKnown (election_of race.now) asked) (visits (election_of race.now)
-        (with_limit (node_of start.now limits.old.items) (low_limit feature value)) (plain_of low.now)) }
+        (low_half (node_of start.now limits.old.items) feature value) (plain_of low.now)) }
     requires high_known { All (IsKnown (election_of race.now) asked) (visits (election_of race.now)
-        (with_limit (node_of start.now limits.old.items) (high_limit feature value)) (plain_of high.now)) }
+        (high_half (node_of start.now limits.old.items) feature value) (plain_of high.now)) }
     requires room { length race.now.kinds ≤ scratch.old }
     ensures room { scratch.new ≡ scratch.old }
     ensures limits { IfOk result (λ end. limits.new.items ≡ limits.old.items) }
     ensures end { IfOk result (EndsAt (Gives (election_of race.now) asked) number
-        (visits (election_of race.now) (with_limit (node_of start.now limits.old.items) (low_limit feature value)) (plain_of low.now)
-        ++ visits (election_of race.now) (with_limit (node_of start.now limits.old.items) (high_limit feature value)) (plain_of high.now))) }
+        (visits (election_of race.now) (low_half (node_of start.now limits.old.items) feature value) (plain_of low.now)
+        ++ visits (election_of race.now) (high_half (node_of start.now limits.old.items) feature value)
+        (plain_of high.now))) }
 {
     let at_most = Limit {
         feature,
@@ -228,10 +229,12 @@ fn gives(
     requires race { IsRace race.now }
     requires start { IsGroundIn (election_of race.now) start.now }
     requires limits { AreLimits (election_of race.now) (node_of start.now limits.now) }
-    requires known { IsKnown (election_of race.now) asked (visit_of (node_of start.now limits.now) (plain_of tree.now)) }
+    requires known { IsKnown (election_of race.now) asked
+        (visit_of (node_of start.now limits.now) (plain_of tree.now)) }
     requires room { length race.now.kinds ≤ scratch.old }
     ensures room { scratch.new ≡ scratch.old }
-    ensures value { IsTrue result ↔ Gives (election_of race.now) asked (visit_of (node_of start.now limits.now) (plain_of tree.now)) }
+    ensures value { IsTrue result
+        ↔ Gives (election_of race.now) asked (visit_of (node_of start.now limits.now) (plain_of tree.now)) }
 {
     match (asked, tree) {
         (Asked::Shape, _) => is_shaped(race, start, limits, tree),

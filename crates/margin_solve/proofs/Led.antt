@@ -2,7 +2,7 @@
 use Rattle.std.proofs.Common.{ℕ, zero, suc, true, false, List, [], ◌∷◌, ◌++◌, ◌≡◌, ◌<◌, ◌≤◌, ◌+◌, ◌-◌, ◌∙◌, refl, sym, ap, length, get_or, drop, drop-cons, append_assoc, append-nil, length-append, arith}
 use Rattle.std.proofs.lemmas.List.{drop_all}
 use Rattle.ballot_form.specs.Scores.{is_first}
-use Rattle.goal_rows.specs.Pairs.{first_led}
+use Rattle.margin_solve.specs.Cheapest.{first_led}
 
 none_led : (x i k : ℕ) → first_led x i k [] ≡ []
 none_led x i zero = refl

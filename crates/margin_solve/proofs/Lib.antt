@@ -3,3 +3,5 @@ pub mod Trees
 pub mod Led
 pub mod Closer
 pub mod Printing
+pub mod Chosen
+pub mod CheapestFound

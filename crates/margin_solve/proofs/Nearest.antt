@@ -7,8 +7,9 @@ use Rattle.score_count.specs.Winners.{AreScores}
 use Rattle.goal_rows.specs.Outcomes.{IsLowestWithGreatest}
 use Rattle.ballot_form.specs.declared.rule.Rule.TheVariants.{Plurality}
 use Rattle.goal_rows.specs.Margins.{IsUnturnable}
-use Rattle.goal_rows.specs.Pairs.{IsPluralityMargin, first_led, IsNearest, deficit_of, points_for}
-use Rattle.goal_rows.proofs.Nearest.{alone_unturnable, margin_of_chosen, reaches_twice, twice_reaches}
+use Rattle.goal_rows.specs.Pairs.{deficit_of}
+use Rattle.margin_solve.specs.Cheapest.{IsPluralityMargin, first_led, IsNearest, points_for}
+use Rattle.margin_solve.proofs.CheapestFound.{alone_unturnable, margin_of_chosen, reaches_twice, twice_reaches}
 use Rattle.margin_solve.specs.Nearest.{IsHalfUp, IsNearestByScores, behind_by}
 use Rattle.margin_solve.specs.declared.challengers.Near.{Near}
 

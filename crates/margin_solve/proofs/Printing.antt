@@ -23,7 +23,8 @@ use Rattle.cert_text.specs.declared.cert.Cert.{Cert}
 use Rattle.cert_text.specs.declared.cert.GoalText.TheVariants.{Pair}
 use Rattle.cert_text.specs.declared.limits.TheConstants.{GREATEST_CANDIDATE, GREATEST_MULTIPLIER}
 use Rattle.goal_rows.specs.Elections.{Election}
-use Rattle.goal_rows.specs.Pairs.{IsPluralityMargin, puts_of}
+use Rattle.goal_rows.specs.Pairs.{puts_of}
+use Rattle.margin_solve.specs.Cheapest.{IsPluralityMargin}
 use Rattle.goal_rows.specs.declared.goals.Goal.{Goal}
 use Rattle.goal_rows.specs.declared.goals.Goal.TheVariants.{Pair as PairOf}
 use Rattle.goal_rows.proofs.Lists.{made_few}

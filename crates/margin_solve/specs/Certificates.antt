@@ -15,7 +15,7 @@ use Rattle.goal_rows.specs.Elections.{Election}
 use Rattle.goal_rows.specs.Goals.{root_goals}
 use Rattle.goal_rows.specs.Margins.{IsUnturnable}
 use Rattle.goal_rows.specs.Outcomes.{IsReported}
-use Rattle.goal_rows.specs.Pairs.{IsPluralityMargin}
+use Rattle.margin_solve.specs.Cheapest.{IsPluralityMargin}
 use Rattle.goal_rows.specs.declared.goals.Goal.{Goal}
 use Rattle.margin_solve.specs.declared.challengers.Target.{Target}
 

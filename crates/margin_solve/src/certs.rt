@@ -7,7 +7,7 @@ ghost use Rattle.bound_tree.specs.Growth.{cuts_of};
 ghost use Rattle.bound_tree.specs.Plain.{Split};
 ghost use Rattle.goal_rows.specs.Goals.{root_goals};
 ghost use Rattle.goal_rows.specs.Outcomes.{IsLowestWithGreatest};
-ghost use Rattle.goal_rows.specs.Pairs.{IsPluralityMargin};
+ghost use Rattle.margin_solve.specs.Cheapest.{IsPluralityMargin};
 ghost use Rattle.margin_solve.specs.Certificates.{IsCertOf, claimed, tree_for};
 
 use crate::challengers::Target;

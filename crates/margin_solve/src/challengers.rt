@@ -2,7 +2,7 @@
 ghost use Rattle.std.specs.Prelude.{◌≡◌, ◌+◌, ◌*◌, ◌-◌, ◌<◌, ◌≤◌, ℕ, [], IfOk, length, slice_index, slice_index_or};
 ghost use Rattle.ballot_form.specs.Scores.{is_first, plurality_points};
 ghost use Rattle.goal_rows.specs.Outcomes.{IsLowestWithGreatest};
-ghost use Rattle.goal_rows.specs.Pairs.{IsPluralityMargin, first_led};
+ghost use Rattle.margin_solve.specs.Cheapest.{IsPluralityMargin, first_led};
 ghost use Rattle.margin_solve.specs.Nearest.{IsCloserUpTo, IsHalfUp, IsNearestByScores, behind_by};
 
 use ballot_form::{Cand, MOST_CANDIDATES, Roll};

@@ -189,6 +189,13 @@ kinds_more rows i row cs is at =
     let here = get_or_from_slice_get rows i row row at in
     rw (take_more rows i row within, here, is) (sym (classes_of-push bytes_eq (take i rows) row))
 
+-- the part of a ballot, among the parts of all
+pub part_at : (part : List ℕ → List ℕ) (rows : List (List ℕ)) (i : ℕ) (row seen : List ℕ) → slice_get rows i ≡ Some row → seen ≡ part row
+    → slice_get (map part rows) i ≡ Some seen
+part_at part [] i row seen at is = absurd (cc)
+part_at part (r ∷ rows) zero row seen at is = grind (arith)
+part_at part (r ∷ rows) (suc i) row seen at is = part_at part rows i row seen at is
+
 -- the sum over the classes after all of these
 pub add_up-add_all : {X : Type 0} (same : X → X → Bool) (decides : (a b : X) → Decides (same a b) (a ≡ b)) (f : X → ℕ) (cs more : List (X × ℕ))
     → add_up (λ c. c.1 * f c.0) (add_all same cs more) ≡ add_up (λ c. c.1 * f c.0) cs + add_up (λ c. c.1 * f c.0) more

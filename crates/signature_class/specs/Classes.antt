@@ -1,5 +1,5 @@
 -- Classes: items that have the same key are counted together. A class is a key and how many items have it.
-use Rattle.std.specs.Prelude.{◌≡◌, ◌≢◌, ◌↔◌, ℕ, ◌+◌, ◌*◌, ◌≤◌, Bool, List, [], ◌∷◌, ◌++◌, map, Contains, All, AllPairs, if◌then◌else◌}
+use Rattle.std.specs.Prelude.{◌≡◌, ◌≢◌, ◌↔◌, ℕ, ◌+◌, ◌*◌, ◌≤◌, Bool, List, [], ◌∷◌, ◌++◌, map, take, Contains, All, AllPairs, if◌then◌else◌}
 use Rattle.std.specs.Borrow.{Bor}
 use Rattle.mov_base.specs.Sums.{add_up}
 
@@ -47,6 +47,10 @@ pub record IsClassList {X : Type 0} (cs : List (X × ℕ)) : Type 0 where
 abbrev pub count_of : {X : Type 0} → (X → X → Bool) → X → List (X × ℕ) → ℕ
 count_of same key [] = 0
 count_of same key (c ∷ cs) = if same key c.0 then c.1 else count_of same key cs
+
+-- a ballot up to its first candidate
+abbrev pub first_part : List ℕ → List ℕ
+first_part ballot = take 1 ballot
 
 -- classes of ballots that are borrowed, by the ballots
 abbrev pub seen : List (Bor (List ℕ) × ℕ) → List (List ℕ × ℕ)

@@ -1,5 +1,5 @@
 use Rattle.std.proofs.Common.{◌≡◌, ◌≤◌, ◌+◌, ◌-◌, ◌++◌, drop, length}
-use Rattle.goal_rows.specs.Pairs.{first_led}
+use Rattle.margin_solve.specs.Cheapest.{first_led}
 use Rattle.margin_solve.proofs.challengers.led_by.Given as goal
 
 abbrev pub invariant-loop-i : goal.invariant-loop-i

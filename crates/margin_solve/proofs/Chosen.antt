@@ -6,7 +6,8 @@ use Rattle.std.proofs.lemmas.Bool.Decides.{nat_tests}
 use Rattle.ballot_form.specs.Alterations.{IsAlterationFrom, after_from}
 use Rattle.ballot_form.specs.Ballots.{IsValidBallot}
 use Rattle.ballot_form.specs.Scores.{first_of, is_first, is_some_of, plurality_points, score_of}
-use Rattle.goal_rows.specs.Pairs.{ComeFirst, first_led, gain_of, plurality_gains, points_for, puts_of}
+use Rattle.goal_rows.specs.Pairs.{ComeFirst, gain_of, puts_of}
+use Rattle.margin_solve.specs.Cheapest.{first_led, plurality_gains, points_for}
 
 -- ---- one ballot
 

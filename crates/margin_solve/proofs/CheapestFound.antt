@@ -9,9 +9,10 @@ use Rattle.ballot_form.specs.Scores.{first_of, is_first, plurality_points, score
 use Rattle.ballot_form.specs.declared.rule.Rule.TheVariants.{Plurality}
 use Rattle.goal_rows.specs.Outcomes.{IsLowestWithGreatest}
 use Rattle.goal_rows.specs.Margins.{IsUnturnable, NoneBelow}
-use Rattle.goal_rows.specs.Pairs.{first_led, IsLevel, IsNearest, IsPluralityMargin, PluralityReaches, deficit_of, gain_of, plurality_gains, points_for, puts_of}
+use Rattle.goal_rows.specs.Pairs.{IsLevel, deficit_of, gain_of, puts_of}
+use Rattle.margin_solve.specs.Cheapest.{first_led, IsNearest, IsPluralityMargin, PluralityReaches, plurality_gains, points_for}
 use Rattle.goal_rows.proofs.Bounds.{length_reaches}
-use Rattle.goal_rows.proofs.Chosen.{alters, come_first, length-chosen, moved, other_first}
+use Rattle.margin_solve.proofs.Chosen.{alters, come_first, length-chosen, moved, other_first}
 use Rattle.goal_rows.proofs.Turning.{level_from_turns, turns_from_level}
 
 -- ---- gains of 0, 1 and 2

@@ -1,4 +1,5 @@
--- What ballots count for the gainer and the loser of a pair, under each rule: how much at most, and what the gainer alone counts.
+-- What ballots count for the gainer and the loser of a pair, under each rule: how much at most, and what the gainer
+-- alone counts.
 use Rattle.std.proofs.Common.{◌≡◌, ◌≢◌, ℕ, zero, suc, ◌+◌, ◌-◌, ◌≤◌, ◌==◌, List, [], ◌∷◌, Bool, true, false, cond, map, length, Option, Some, None, refl, arith}
 use Rattle.std.specs.Prelude.{option_map, slice_index}
 use Rattle.std.specs.List.{range_with_len}
@@ -22,7 +23,8 @@ use Rattle.goal_rows.specs.Outcomes.{IsReported}
 use Rattle.goal_rows.specs.declared.goals.Goal.{Goal}
 use Rattle.goal_rows.specs.declared.goals.Goal.TheVariants.{Pair}
 
--- no ballot counts more for the gainer than the gainer alone, which counts nothing for the loser; and all counts are small
+-- no ballot counts more for the gainer than the gainer alone, which counts nothing for the loser; and all counts are
+-- small
 pub record ArePairPoints (e : Election) (g l : ℕ) : Type 0 where
   pub low : (ballot : List ℕ) → loser_points e g l ballot ≤ 1024
   pub high : (ballot : List ℕ) → gainer_points e g l ballot ≤ gainer_points e g l (g ∷ [])
