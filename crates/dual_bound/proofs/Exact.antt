@@ -92,7 +92,7 @@ lone_is_top : (e : Election) (g l : ℕ) → ArePairPoints e g l → pair_weight
 lone_is_top e g l are = let none = are.none in omega (arith, ints, none)
 
 -- the test of a pair with one multiplier
-one_pair : (e : Election) (g l m t : ℕ) → ArePairPoints e g l → g < e.poll.c → t ≤ length e.poll.ballots + 1
+pub one_pair : (e : Election) (g l m t : ℕ) → ArePairPoints e g l → g < e.poll.c → t ≤ length e.poll.ballots + 1
     → CutsAt (pos m *ℤ sum_z (pair_weight e g l) e.poll.ballots) (map (λ key. m * ((gainer_points e g l (g ∷ []) + 1024) - key)) (keys_of e (Pair g l))) t
     ↔ Cuts e (record { goal = Pair g l; limits = [] }) (m ∷ []) t
 one_pair e g l m t are below within =

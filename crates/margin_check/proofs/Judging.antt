@@ -4,7 +4,6 @@ use Rattle.std.specs.Prelude.{◌==◌, Err}
 use Rattle.std.proofs.lemmas.Bool.{false≢true}
 use Rattle.ballot_form.specs.Alterations.{IsAlteration, after, after_from}
 use Rattle.ballot_form.specs.Ballots.{Poll}
-use Rattle.ballot_form.specs.Rules.{IsRule}
 use Rattle.ballot_form.specs.declared.limits.TheConstants.{MOST_BALLOTS}
 use Rattle.ballot_form.specs.declared.outcome.Outcome.{Outcome}
 use Rattle.ballot_form.specs.declared.rule.Rule.{Rule}
@@ -16,6 +15,7 @@ use Rattle.alteration_model.specs.declared.faults.AlterFault.TheVariants.{Number
 use Rattle.alteration_model.specs.declared.puts.Put.{Put}
 use Rattle.bound_tree.specs.Nodes.{size}
 use Rattle.bound_tree.specs.Plain.{Plain}
+use Rattle.bound_tree.specs.declared.bound.TheConstants.{MOST_NODES}
 use Rattle.goal_rows.specs.Elections.{Election, Node}
 use Rattle.goal_rows.specs.Goals.{IsDecidedByPairs, root_goals}
 use Rattle.goal_rows.specs.Outcomes.{IsReported}
@@ -43,18 +43,11 @@ use Rattle.margin_check.proofs.Nodes.{visits_few}
 
 -- ---- the rule, the outcome and the ballots
 
-pub judged_rule : (rule : Rule) → IsJudged rule → IsRule rule
-judged_rule Plurality is = tt
-judged_rule Borda is = absurd is
-judged_rule Condorcet is = absurd is
-judged_rule (Dhondt seats) is = absurd is
-judged_rule Irv is = absurd is
-
 pub judged_pairs : (rule : Rule) (o : Outcome) → IsJudged rule → IsDecidedByPairs rule o
 judged_pairs Plurality o is = tt
-judged_pairs Borda o is = absurd is
+judged_pairs Borda o is = tt
 judged_pairs Condorcet o is = absurd is
-judged_pairs (Dhondt seats) o is = absurd is
+judged_pairs (Dhondt seats) o is = tt
 judged_pairs Irv o is = absurd is
 
 pub same_election : (race : Race) (p : Poll) (cert : Cert) → race.rule ≡ cert.rule → race.roll.now ≡ p → race.reported ≡ cert.reported
@@ -126,8 +119,8 @@ first_within P [] place is = absurd is
 first_within P (x ∷ xs) zero is = omega arith
 first_within P (x ∷ xs) (suc place) is = omega (arith, first_within P xs place is.1)
 
-pub stopped_few : (P : Visit → Type 0) (e : Election) (node : Node) (tree : Plain) (end : End) → size tree ≤ 100000 → EndsAt P 0 (visits e node tree) end
-    → IsWithin 100000 end
+pub stopped_few : (P : Visit → Type 0) (e : Election) (node : Node) (tree : Plain) (end : End) → size tree ≤ MOST_NODES → EndsAt P 0 (visits e node tree) end
+    → IsWithin MOST_NODES end
 stopped_few P e node tree (Through next) few is = tt
 stopped_few P e node tree (Stopped at) few is = omega (arith, few, is.2, visits_few e node tree, first_within P (visits e node tree) is.0 is.1)
 
@@ -162,3 +155,33 @@ all_through P number behind xs end is ends = (subst (λ x. EndsAt P number xs x)
 pub first_stopped : {X : Type 0} (P : X → Type 0) (number at : ℕ) (xs : List X) (end : End) → end ≡ Stopped at → EndsAt P number xs end
     → (place : ℕ) × IsFirstWithout P xs place × (at ≡ number + place)
 first_stopped P number at xs end is ends = subst (λ x. EndsAt P number xs x) is ends
+
+-- what is known once the claim is judged
+pub record Known (p : Poll) (cert : Cert) (race : Race) (holds : Bool) : Type 0 where
+  pub same : election_of race ≡ election_by p cert
+  pub reported : IsReported cert.rule p cert.reported
+  pub alteration : IsAlteration p (pairs_of cert.puts)
+  pub claim : IsTrue holds ↔ IsTurned p cert
+
+module _ (p : Poll) (cert : Cert) (race : Race) (is : IsRace race) (rule : race.rule ≡ cert.rule) (poll : race.roll.now ≡ p)
+    (outcome : race.reported ≡ cert.reported) (roots : race.roots ≡ root_goals cert.rule p.c race.reported) where
+  pub known : (altered : Poll) (shown : List Put) (changes : List (ℕ × List ℕ)) (holds : Bool) → altered ≡ after p changes → changes ≡ pairs_of shown
+      → shown ≡ cert.puts → IsAlteration p changes → (IsTrue holds ↔ ClaimHolds (election_of race) cert.claim cert.goal altered.ballots) → Known p cert race holds
+  known altered shown changes holds made pairs lent ok test =
+      let same = same_election race p cert rule poll outcome roots in
+      record {
+        same = same;
+        reported = reported_so p cert race same is;
+        alteration = altered_so p cert shown changes pairs lent ok;
+        claim = turned_so p cert race same altered shown changes holds made pairs lent test;
+      }
+
+-- a walk that came through, and one that stopped
+module _ (p : Poll) (cert : Cert) (race : Race) (same : election_of race ≡ election_by p cert) (asked : Asked) (end : End)
+    (ends : EndsAt (Gives (election_of race) asked) 0 (visits (election_of race) (without_limits Root) cert.tree) end) where
+  pub came_through : (next : ℕ) → end ≡ Through next → All (Gives (election_by p cert) asked) (cert_visits p cert)
+  came_through next is = all_through (Gives (election_by p cert) asked) 0 next (cert_visits p cert) end is (ends_so p cert race same asked end ends)
+
+  pub came_to : (number : ℕ) → end ≡ Stopped number
+      → (place : ℕ) × IsFirstWithout (Gives (election_by p cert) asked) (cert_visits p cert) place × (number ≡ 0 + place)
+  came_to number is = first_stopped (Gives (election_by p cert) asked) 0 number (cert_visits p cert) end is (ends_so p cert race same asked end ends)

@@ -4,7 +4,7 @@ use Rattle.std.specs.List.{before_first}
 use Rattle.ballot_form.specs.Alterations.{IsAlteration}
 use Rattle.ballot_form.specs.Ballots.{Poll}
 use Rattle.ballot_form.specs.declared.rule.Rule.{Rule}
-use Rattle.ballot_form.specs.declared.rule.Rule.TheVariants.{Plurality}
+use Rattle.ballot_form.specs.declared.rule.Rule.TheVariants.{Condorcet, Irv}
 use Rattle.alteration_model.specs.Faults.{IsFirstFault, pairs_of}
 use Rattle.alteration_model.specs.declared.faults.AlterFault.{AlterFault}
 use Rattle.alteration_model.specs.declared.faults.AlterFault.TheVariants.{NumberRange, NotAscending, BadBallot, Memory}
@@ -47,10 +47,11 @@ reason_name ShapeDiffers = codes "ShapeDiffers"
 reason_name CutFails = codes "CutFails"
 reason_name NumbersDisagree = codes "NumbersDisagree"
 
--- certificates of this rule are judged: so far those of plurality
+-- certificates of this rule are judged: so far those of plurality, Borda and D'Hondt
 abbrev pub IsJudged : Rule → Type 0
-IsJudged Plurality = Unit {0}
-IsJudged rule = ⊥
+IsJudged Irv = ⊥
+IsJudged Condorcet = ⊥
+IsJudged rule = Unit {0}
 
 -- the part of validity that fails by a reason
 abbrev pub Part : Reason → Poll → Cert → Type 0

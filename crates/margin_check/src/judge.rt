@@ -1,6 +1,7 @@
 // The judgement of a certificate, part by part.
 ghost use Rattle.std.specs.Prelude.{◌≡◌, ◌≢◌, ◌+◌, ◌≤◌, ◌↔◌, All, IfOk, IsTrue, length};
 ghost use Rattle.ballot_form.specs.declared.limits.TheConstants.{MOST_BALLOTS};
+ghost use Rattle.bound_tree.specs.declared.bound.TheConstants.{MOST_NODES};
 ghost use Rattle.alteration_model.specs.declared.faults.AlterFault.TheVariants.{Memory};
 ghost use Rattle.goal_rows.specs.Nodes.{without_limits};
 ghost use Rattle.goal_rows.specs.Races.{IsRace, election_of};
@@ -69,9 +70,9 @@ fn is_judged(rule: Rule) -> bool
 {
     match rule {
         Rule::Plurality => true,
-        Rule::Borda => false,
+        Rule::Borda => true,
+        Rule::Dhondt(_) => true,
         Rule::Condorcet => false,
-        Rule::Dhondt(_) => false,
         Rule::Irv => false,
     }
 }
@@ -106,7 +107,7 @@ fn walk_tree(
     ensures room { scratch.new ≡ scratch.old }
     ensures end { IfOk result (EndsAt (Gives (election_of race.now) asked) 0
         (visits (election_of race.now) (without_limits Root) tree.now)) }
-    ensures few { IfOk result (IsWithin 100000) }
+    ensures few { IfOk result (IsWithin MOST_NODES) }
 {
     let _ = tree.nodes();
     let start = ground(alloc, race, &Goal::Root)?;

@@ -4,8 +4,8 @@
 //! of validity hold (`specs/Validity.antt`), and otherwise the first part that fails, with its line; and that what a
 //! valid certificate claims is so: the margin, or that nothing turns the outcome, or bounds of the margin. A tree is
 //! judged in two walks over its nodes, first for their shapes and then for the cut test. So far certificates of
-//! plurality are judged; each other rule is refused before all else. The crate stands on `cert_text`,
-//! `alteration_model`, `goal_rows` and `dual_bound`.
+//! plurality, Borda and D'Hondt are judged; those of the other rules are refused before all else. The crate stands on
+//! `cert_text`, `alteration_model`, `goal_rows` and `dual_bound`.
 #![tactic(auto)]
 
 mod checker;

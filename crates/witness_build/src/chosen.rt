@@ -1,0 +1,45 @@
+// The ballots to replace.
+ghost use Rattle.std.specs.Prelude.{◌≡◌, ℕ, IfOk};
+ghost use Rattle.goal_rows.specs.Races.{IsRace, election_of, IsGroundIn};
+ghost use Rattle.goal_rows.specs.declared.goals.Goal.TheVariants.{Pair};
+ghost use Rattle.witness_build.specs.Levels.{IsLevel, first_from};
+ghost use Rattle.witness_build.specs.Witnesses.{pair_deficit, pair_gains};
+
+use crate::levels::Level;
+use goal_rows::key;
+use goal_rows::parts::{Ground, Race};
+use mov_base::{List, Memory};
+use std::alloc::Global;
+
+/// The numbers of ballots, from 1.
+pub(crate) type NumberList = List<u32>;
+
+/// The numbers of all ballots whose gain is above the level's, and of the first ones whose gain is that, ascending. They are found
+/// in one pass over the ballots.
+pub(crate) fn first_numbers(
+    alloc: Global,
+    race: &Race<'_>,
+    start: &Ground,
+    level: Level,
+) -> Result<NumberList, Memory>
+    requires race { IsRace race.now }
+    requires start { IsGroundIn (election_of race.now) start.now }
+    requires level { (g l : ℕ) → start.now.goal ≡ Pair g l →
+        IsLevel (pair_deficit (election_of race.now) g l) (pair_gains (election_of race.now) g l) level }
+    ensures { IfOk result (λ numbers. (g l : ℕ) → start.now.goal ≡ Pair g l →
+        numbers ≡ first_from level.gain level.equal 1 (pair_gains (election_of race.now) g l)) }
+{
+    let best = (start.lone + 1024) as u64;
+    let mut equal = level.equal;
+    let mut numbers = Vec::with_capacity(alloc, level.count as usize)?;
+    for i in 0..race.roll.len() {
+        let gain = best - key(race, &start.goal, race.roll.row(i));
+        if gain > level.gain {
+            numbers.push(i + 1)?;
+        } else if gain == level.gain && equal > 0 {
+            equal -= 1;
+            numbers.push(i + 1)?;
+        }
+    }
+    Ok(List::from_vec(numbers))
+}

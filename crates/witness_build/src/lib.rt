@@ -1,0 +1,17 @@
+//! Replacements that meet a complete goal: witnesses that so many turn the outcome.
+//!
+//! `pair_witness` answers the cheapest replacements of a pair: as few as bring its gainer level with its loser, each by the ballot
+//! that ranks the gainer alone, of the ballots with the largest gains, lower numbers first at equal gains. `start_witness` answers
+//! those of the first root pair that the fewest bring level; where a search begins, this is what is known to turn the outcome.
+//! Gains are taken by classes of ballots. The crate stands on the goals of `goal_rows` and the alterations of `alteration_model`.
+#![tactic(auto)]
+
+mod chosen;
+mod laws;
+mod levels;
+mod pairs;
+mod starts;
+
+pub use laws::no_shorter_alteration_meets_a_root_pair;
+pub use pairs::{Witness, pair_witness};
+pub use starts::start_witness;

@@ -1,0 +1,57 @@
+// The cheapest replacements of the root's pairs.
+ghost use Rattle.std.specs.Prelude.{◌≡◌, ◌↔◌, None, IfOk, IfSome};
+ghost use Rattle.goal_rows.specs.Goals.{IsDecidedByPairs, root_goals};
+ghost use Rattle.goal_rows.specs.Races.{IsRace, election_of};
+ghost use Rattle.witness_build.specs.Witnesses.{IsMetBy, IsStartWitness};
+
+use crate::levels::{Level, level_of};
+use crate::pairs::{Witness, witness_at};
+use goal_rows::ground;
+use goal_rows::parts::{Ground, Race};
+use mov_base::Memory;
+use std::alloc::Global;
+
+/// The cheapest replacements of the first root pair that the fewest bring level; none exactly where there is one candidate. The
+/// race has its own roots, and they are pairs.
+pub fn start_witness(alloc: Global, race: &Race<'_>) -> Result<Option<Witness>, Memory>
+    requires race { IsRace race.now }
+    requires own { race.now.roots ≡ root_goals race.now.rule race.now.roll.now.c race.now.reported }
+    requires pairs { IsDecidedByPairs race.now.rule race.now.reported }
+    ensures none { IfOk result (λ found. (found ≡ None) ↔ (race.now.roll.now.c ≡ 1)) }
+    ensures start { IfOk result (IfSome (λ w. IsStartWitness (election_of race.now) w.goal w.changes)) }
+    ensures met { IfOk result (IfSome (λ w. IsMetBy (election_of race.now) w.goal w.changes)) }
+{
+    match nearest(alloc, race)? {
+        Some(near) => Ok(Some(witness_at(alloc, race, &near.start, near.level)?)),
+        None => Ok(None),
+    }
+}
+
+/// A root pair, and its level.
+#[derive(Drop)]
+struct Near {
+    start: Ground,
+    level: Level,
+}
+
+/// The first root pair that the fewest replacements bring level.
+fn nearest(alloc: Global, race: &Race<'_>) -> Result<Option<Near>, Memory>
+{
+    let mut near: Option<Near> = None;
+    for goal in race.roots.as_slice() {
+        let start = ground(alloc, race, goal)?;
+        let level = level_of(&start);
+        if is_closer(level, &near) {
+            near = Some(Near { start, level });
+        }
+    }
+    Ok(near)
+}
+
+/// Whether the level takes fewer replacements than what is the nearest so far.
+fn is_closer(level: Level, near: &Option<Near>) -> bool {
+    match near {
+        Some(near) => level.count < near.level.count,
+        None => true,
+    }
+}
