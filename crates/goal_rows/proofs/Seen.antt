@@ -1,5 +1,8 @@
 -- What a rule looks at on a ballot is enough for what the ballot counts under it.
-use Rattle.std.proofs.Common.{◌≡◌, ◌+◌, ◌-◌, ◌∷◌, ◌∙◌, ℕ, List, [], Bool, cond, map, take, ap, refl}
+use Rattle.std.proofs.Common.{◌≡◌, ◌+◌, ◌-◌, ◌∷◌, ◌∙◌, ◌⊎◌, ℕ, List, [], Bool, Result, Ok, Err, IfOk, cond, map, take, ap, sym, refl, inl, inr}
+use Rattle.std.specs.Str.{bytes_eq}
+use Rattle.std.proofs.lemmas.List.{map-id}
+use Rattle.signature_class.specs.Classes.{classes_of}
 use Rattle.ballot_form.specs.Ballots.{Poll}
 use Rattle.ballot_form.specs.Scores.{is_first}
 use Rattle.ballot_form.specs.declared.outcome.Outcome.{Outcome}
@@ -44,6 +47,18 @@ pub key_seen : (e : Election) (g l : ℕ) (ballot : List ℕ) → key_of e (Pair
 key_seen e g l ballot =
     ap (λ n. (n + 1024) - loser_points e g l (seen_by e.rule ballot)) (gainer_seen e g l ballot)
     ∙ ap (λ n. (gainer_points e g l ballot + 1024) - n) (loser_seen e g l ballot)
+
+-- under the other rules the whole ballot is looked at
+seen_whole : (rule : Rule) → (rule ≡ Borda) ⊎ ((rule ≡ Condorcet) ⊎ (rule ≡ Irv)) → (ballots : List (List ℕ)) → map (seen_by rule) ballots ≡ ballots
+seen_whole rule (inl is) ballots = rw is (map-id ballots)
+seen_whole rule (inr (inl is)) ballots = rw is (map-id ballots)
+seen_whole rule (inr (inr is)) ballots = rw is (map-id ballots)
+
+pub whole_kinds : {E : Type 0} (made : Result (List (List ℕ × ℕ)) E) (rule : Rule) (ballots : List (List ℕ))
+    → (rule ≡ Borda) ⊎ ((rule ≡ Condorcet) ⊎ (rule ≡ Irv)) → IfOk made (λ kinds. kinds ≡ classes_of bytes_eq ballots)
+    → IfOk made (λ kinds. kinds ≡ classes_of bytes_eq (map (seen_by rule) ballots))
+whole_kinds (Ok kinds) rule ballots whole is = is ∙ ap (classes_of bytes_eq) (sym (seen_whole rule whole ballots))
+whole_kinds (Err fault) rule ballots whole is = tt
 
 -- what is seen of the ballots gives the same
 pub seen_alike : {X : Type 0} (f : List ℕ → X) (part : List ℕ → List ℕ) (ballots : List (List ℕ)) → ((ballot : List ℕ) → f (part ballot) ≡ f ballot)

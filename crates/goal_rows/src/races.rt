@@ -56,7 +56,9 @@ fn kinds_seen<'a>(alloc: Global, rule: Rule, roll: &'a Roll) -> Result<Kinds<'a>
 {
     match rule {
         Rule::Plurality | Rule::Dhondt(_) => first_kinds(alloc, roll),
-        Rule::Borda | Rule::Condorcet | Rule::Irv => kinds(alloc, roll),
+        Rule::Borda => kinds(alloc, roll),
+        Rule::Condorcet => kinds(alloc, roll),
+        Rule::Irv => kinds(alloc, roll),
     }
 }
 
