@@ -1,7 +1,4 @@
-pub mod Nearest
 pub mod Trees
-pub mod Led
-pub mod Closer
+pub mod Cutting
 pub mod Printing
-pub mod Chosen
-pub mod CheapestFound
+pub mod Made

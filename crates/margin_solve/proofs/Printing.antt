@@ -1,15 +1,21 @@
--- Certificates under plurality are within the limits of their text.
-use Rattle.std.proofs.Common.{ℕ, zero, suc, List, [], ◌∷◌, ◌++◌, Some, ◌≡◌, ◌<◌, ◌≤◌, ◌+◌, ◌∙◌, take, length, map, slice_get, All, replicate, sym, refl, ap, subst, inl, inr, arith}
-use Rattle.std.specs.Prelude.{◌==◌, not}
-use Rattle.std.proofs.lemmas.List.{length-map, map-append, replicate_more, take_more}
-use Rattle.std.proofs.lemmas.Option.{get_or_from_slice_get, slice_get_within}
+-- Certificates of contests that are decided by pairs are within the limits of their text.
+use Rattle.std.proofs.Common.{ℕ, zero, suc, List, [], ◌∷◌, ◌++◌, Some, None, Option, ◌≡◌, ◌<◌, ◌≤◌, ◌+◌, ◌∙◌, length, map, All, replicate, sym, refl, ap, subst, absurd, inl, inr, arith}
+use Rattle.std.specs.Prelude.{slice_index}
+use Rattle.std.specs.List.{range_with_len}
+use Rattle.std.proofs.lemmas.List.{length-map, replicate_more}
+use Rattle.std.proofs.lemmas.List.FromFn.{length-range_with_len}
+use Rattle.alteration_model.specs.Faults.{pairs_of}
 use Rattle.alteration_model.specs.declared.puts.Put.{Put}
 use Rattle.alteration_model.proofs.Judged.{no_longer}
-use Rattle.ballot_form.specs.Alterations.{IsAlterationFrom}
-use Rattle.ballot_form.specs.Ballots.{IsPoll, Poll}
+use Rattle.ballot_form.specs.Alterations.{IsAlteration, IsAlterationFrom}
+use Rattle.ballot_form.specs.Ballots.{IsPoll, IsValidBallot, Poll}
 use Rattle.ballot_form.specs.Rules.{IsRule}
-use Rattle.ballot_form.specs.declared.limits.TheConstants.{MOST_BALLOTS, MOST_CANDIDATES}
-use Rattle.ballot_form.specs.declared.rule.Rule.TheVariants.{Plurality}
+use Rattle.ballot_form.specs.Scores.{first_count}
+use Rattle.ballot_form.specs.declared.limits.TheConstants.{MOST_BALLOTS, MOST_CANDIDATES, MOST_SEATS}
+use Rattle.ballot_form.specs.declared.outcome.Outcome.{Outcome}
+use Rattle.ballot_form.specs.declared.outcome.Outcome.TheVariants.{Winner, NoWinner, Seats}
+use Rattle.ballot_form.specs.declared.rule.Rule.{Rule}
+use Rattle.ballot_form.specs.declared.rule.Rule.TheVariants.{Plurality, Borda, Condorcet, Dhondt, Irv}
 use Rattle.bound_tree.specs.Growth.{cuts_of}
 use Rattle.bound_tree.specs.Lines.{CutWith, SplitInto, lines_of}
 use Rattle.bound_tree.specs.Nodes.{height, size}
@@ -20,45 +26,62 @@ use Rattle.bound_tree.proofs.Laws.{highest_cuts, size_cuts, split_of_cuts}
 use Rattle.bound_tree.proofs.LineLaws.{lines_split}
 use Rattle.cert_text.specs.CertText.{BodyFits, ClaimFits, GoalFits, IsPrintable, LineFits, OutcomeFits, PutFits, TurnFits}
 use Rattle.cert_text.specs.declared.cert.Cert.{Cert}
+use Rattle.cert_text.specs.declared.cert.GoalText.{GoalText}
 use Rattle.cert_text.specs.declared.cert.GoalText.TheVariants.{Pair}
 use Rattle.cert_text.specs.declared.limits.TheConstants.{GREATEST_CANDIDATE, GREATEST_MULTIPLIER}
+use Rattle.dhondt_seats.specs.Seats.{reported_seats, seats_of, votes_of}
 use Rattle.goal_rows.specs.Elections.{Election}
-use Rattle.goal_rows.specs.Pairs.{puts_of}
-use Rattle.margin_solve.specs.Cheapest.{IsPluralityMargin}
+use Rattle.goal_rows.specs.Goals.{IsRootOf}
+use Rattle.goal_rows.specs.Outcomes.{IsReported}
 use Rattle.goal_rows.specs.declared.goals.Goal.{Goal}
-use Rattle.goal_rows.specs.declared.goals.Goal.TheVariants.{Pair as PairOf}
-use Rattle.goal_rows.proofs.Lists.{made_few}
-use Rattle.margin_solve.specs.Certificates.{IsCertOf, IsFixedCert, IsMarginCert, claimed, election_for, split_for, tree_for}
-use Rattle.margin_solve.specs.declared.challengers.Target.{Target}
+use Rattle.goal_rows.specs.declared.goals.Goal.TheVariants as goals
+use Rattle.goal_rows.proofs.PairPoints.{few_seats}
+use Rattle.margin_check.specs.Verdicts.{IsJudged}
+use Rattle.margin_solve.specs.Certificates.{IsFixedCert, IsMarginCert, split_for, tree_for}
 
 -- ---- built one by one
 
 pub one_list_more : (n : ℕ) (lists : List (List ℕ)) → lists ≡ replicate n (1 ∷ []) → lists ++ (1 ∷ []) ∷ [] ≡ replicate (n + 1) (1 ∷ [])
 one_list_more n lists is = rw is (replicate_more n (1 ∷ []))
 
-pub one_put_more : (g i number : ℕ) (numbers : List ℕ) → slice_get numbers i ≡ Some number
-    → claimed g (take i numbers) ++ (record { number = number; ballot = g ∷ [] }) ∷ [] ≡ claimed g (take (i + 1) numbers)
-one_put_more g i number numbers at =
-    let within = slice_get_within numbers i number at in
-    let here = get_or_from_slice_get numbers i number number at in
-    let one : ℕ → Put = λ m. record { number = m; ballot = g ∷ [] } in
-    rw (take_more numbers i number within, here) (sym (map-append one (take i numbers) (number ∷ [])))
+-- ---- the outcome
+
+all_made : (f : ℕ → ℕ) (most : ℕ) (xs : List ℕ) → ((x : ℕ) → f x ≤ most) → All (λ s. s ≤ most) (map f xs)
+all_made f most [] few k d lt = absurd (omega arith)
+all_made f most (x ∷ xs) few zero d lt = few x
+all_made f most (x ∷ xs) few (suc k) d lt = all_made f most xs few k d (omega arith)
+
+outcome_fits : (rule : Rule) (p : Poll) (o : Outcome) → IsJudged rule → IsRule rule → IsPoll p → IsReported rule p o → OutcomeFits rule p.c o
+outcome_fits Plurality p (Winner x) judged lawful poll is = omega (arith, is.greatest.stands, poll.most)
+outcome_fits Borda p (Winner x) judged lawful poll is = omega (arith, is.greatest.stands, poll.most)
+outcome_fits (Dhondt s) p (Seats shares) judged lawful poll is =
+    let votes = votes_of p in
+    let each = all_made (seats_of votes s) MOST_SEATS (range_with_len 0 (length votes)) (λ a. omega (arith, few_seats votes s a, lawful.1)) in
+    let many = length-map (range_with_len 0 (length votes)) (seats_of votes s) in
+    let one_each = length-range_with_len 0 (length votes) in
+    let made = length-map (range_with_len 0 p.c) (λ a. first_count p.ballots a) in
+    let voters = length-range_with_len 0 p.c in
+    rw is (omega (arith, many, one_each, made, voters), each)
+outcome_fits Plurality p NoWinner judged lawful poll is = absurd is
+outcome_fits Plurality p (Seats shares) judged lawful poll is = absurd is
+outcome_fits Borda p NoWinner judged lawful poll is = absurd is
+outcome_fits Borda p (Seats shares) judged lawful poll is = absurd is
+outcome_fits (Dhondt s) p (Winner x) judged lawful poll is = absurd is
+outcome_fits (Dhondt s) p NoWinner judged lawful poll is = absurd is
+outcome_fits Condorcet p o judged lawful poll is = absurd judged
+outcome_fits Irv p o judged lawful poll is = absurd judged
 
 -- ---- the replacements
 
-pub count_few : (p : Poll) (x g : ℕ) (numbers : List ℕ) → IsPoll p → IsPluralityMargin p x g numbers → length numbers ≤ MOST_BALLOTS
-count_few p x g numbers poll is =
-    let put : ℕ → ℕ × List ℕ = λ number. (number, g ∷ []) in
-    omega (arith, no_longer p (puts_of g numbers) is.cheapest.alteration, length-map numbers put, poll.few)
+puts_fit : (c i n : ℕ) (puts : List Put) → c ≤ MOST_CANDIDATES → n ≤ MOST_BALLOTS → IsAlterationFrom c i n (pairs_of puts) → All PutFits puts
+puts_fit c i n [] few small is k d lt = absurd (omega arith)
+puts_fit c i n (put ∷ puts) few small is zero d lt = (omega (arith, is.1, small), λ j e within. omega (arith, is.2.below j e within, few))
+puts_fit c i n (put ∷ puts) few small is (suc k) d lt = puts_fit c (put.number + 1) n puts few small is.3 k d (omega arith)
 
-fit : (c i n g : ℕ) (numbers : List ℕ) → n ≤ MOST_BALLOTS → g ≤ GREATEST_CANDIDATE → IsAlterationFrom c i n (puts_of g numbers) → All PutFits (claimed g numbers)
-fit c i n g [] small low is k d lt = absurd (omega arith)
-fit c i n g (m ∷ numbers) small low is zero d lt = (omega (arith, is.1, small), one)
-  where
-    one : All (λ x. x ≤ GREATEST_CANDIDATE) (g ∷ [])
-    one zero e within = low
-    one (suc j) e within = absurd (omega arith)
-fit c i n g (m ∷ numbers) small low is (suc k) d lt = fit c (m + 1) n g numbers small low is.3 k d (omega arith)
+pub puts_few : (p : Poll) (puts : List Put) → IsPoll p → IsAlteration p (pairs_of puts) → length puts ≤ length p.ballots
+puts_few p puts poll is =
+    let put : Put → ℕ × List ℕ = λ one. (one.number, one.ballot) in
+    omega (arith, no_longer p (pairs_of puts) is, length-map puts put)
 
 -- ---- the tree
 
@@ -80,11 +103,11 @@ cuts_fit [] k d lt = absurd (omega arith)
 cuts_fit (goal ∷ roots) zero d lt = one_fits
 cuts_fit (goal ∷ roots) (suc k) d lt = cuts_fit roots k d (omega arith)
 
--- the tree is within the limits of trees
-record TreeFits (tree : Plain) : Type 0 where
-  lines : All LineFits (lines_of tree)
-  low : height tree ≤ MOST_DEPTH
-  small : size tree ≤ MOST_NODES
+-- the tree is within the limits of trees, and small
+pub record TreeFits (tree : Plain) : Type 0 where
+  pub lines : All LineFits (lines_of tree)
+  pub low : height tree ≤ MOST_DEPTH
+  pub small : size tree ≤ 145
 
 leaf_fits : TreeFits (Cut [])
 leaf_fits = record { lines = all; low = omega arith; small = omega arith }
@@ -93,7 +116,7 @@ leaf_fits = record { lines = all; low = omega arith; small = omega arith }
     all zero d lt = (omega arith, λ k e within. absurd (omega arith))
     all (suc k) d lt = absurd (omega arith)
 
-split_fits : (roots : List Goal) → length roots ≤ MOST_CANDIDATES → TreeFits (split_for roots)
+pub split_fits : (roots : List Goal) → length roots ≤ 144 → TreeFits (split_for roots)
 split_fits roots few = record {
   lines = subst (All LineFits) (sym (lines_are (ones roots))) all;
   low = omega (arith, highest_cuts (ones roots));
@@ -107,58 +130,38 @@ split_fits roots few = record {
     all zero d lt = omega (arith, many, few)
     all (suc k) d lt = cuts_fit roots k d (omega arith)
 
-tree_fits : (roots : List Goal) (k : ℕ) → length roots ≤ MOST_CANDIDATES → TreeFits (tree_for roots k)
+pub tree_fits : (roots : List Goal) (k : ℕ) → length roots ≤ 144 → TreeFits (tree_for roots k)
 tree_fits roots zero few = leaf_fits
 tree_fits roots (suc k) few = split_fits roots few
 
 -- ---- certificates
 
--- what is claimed, and what stands below it
-record BodyIs (c : ℕ) (cert : Cert) : Type 0 where
-  claim : ClaimFits cert.claim
-  body : BodyFits c cert.claim cert.goal cert.puts
-  tree : TreeFits cert.tree
+-- what is known of a certificate before its claim
+pub record HeadIs (p : Poll) (cert : Cert) : Type 0 where
+  pub poll : IsPoll p
+  pub lawful : IsRule cert.rule
+  pub judged : IsJudged cert.rule
+  pub candidates : cert.c ≡ p.c
+  pub ballots : cert.ballots ≡ length p.ballots
+  pub reported : IsReported cert.rule p cert.reported
 
-fixed_body : (c : ℕ) (e : Election) (cert : Cert) → IsFixedCert e cert → BodyIs c cert
-fixed_body c e cert is = record {
-  claim = subst ClaimFits (sym is.claim) tt;
-  body = subst (λ claim. BodyFits c claim cert.goal cert.puts) (sym is.claim) (is.goal, is.puts);
-  tree = subst TreeFits (sym is.tree) (split_fits [] (omega arith));
+-- a certificate with this head, a claim and body that fit, and a tree that does
+pub printable : (p : Poll) (cert : Cert) → HeadIs p cert → ClaimFits cert.claim → BodyFits p.c cert.claim cert.goal cert.puts → TreeFits cert.tree → IsPrintable cert
+printable p cert head claim body tree = record {
+  rule = head.lawful;
+  sizes = (omega (arith, head.poll.some, head.candidates), omega (arith, head.poll.most, head.candidates), omega (arith, head.poll.few, head.ballots));
+  reported = subst (λ c. OutcomeFits cert.rule c cert.reported) (sym head.candidates) (outcome_fits cert.rule p cert.reported head.judged head.lawful head.poll head.reported);
+  claim = claim;
+  body = subst (λ c. BodyFits c cert.claim cert.goal cert.puts) (sym head.candidates) body;
+  lines = tree.lines;
+  depth = tree.low;
+  nodes = omega (arith, tree.small);
 }
 
-margin_body : (p : Poll) (x : ℕ) (target : Target) (cert : Cert) → IsPoll p → x < p.c → IsMarginCert (election_for p x) x target cert → BodyIs p.c cert
-margin_body p x target cert poll stands is =
-    let g = target.challenger in
-    let k = length target.numbers in
-    let own : g ≤ GREATEST_CANDIDATE = omega (arith, is.cheapest.cheapest.nearest.stands, poll.most) in
-    let goal_fits : GoalFits p.c (Pair g x) = (own, omega (arith, stands, poll.most)) in
-    let all = fit p.c 1 (length p.ballots) g target.numbers poll.few own is.cheapest.cheapest.alteration in
-    let fits : TurnFits p.c k (Some (Pair g x)) (claimed g target.numbers) =
-    (goal_fits, length-map target.numbers (λ m. record { number = m; ballot = g ∷ [] }), all) in
-    let few = made_few (λ j. PairOf j x) p.c (λ j. not (j == x)) in
-    record {
-      claim = subst ClaimFits (sym is.claim) (count_few p x g target.numbers poll is.cheapest);
-      body = subst (λ claim. BodyFits p.c claim cert.goal cert.puts) (sym is.claim)
-          (subst (λ o. TurnFits p.c k o cert.puts) (sym is.goal) (subst (TurnFits p.c k (Some (Pair g x))) (sym is.puts) fits));
-      tree = subst TreeFits (sym is.tree) (tree_fits (election_for p x).roots k (omega (arith, few, poll.most)));
-    }
-
-pub cert_printable : (p : Poll) (cert : Cert) → IsPoll p → IsCertOf p cert → IsPrintable cert
-cert_printable p cert poll of =
-    let x = of.0 in
-    let is = of.1 in
-    let stands : x < p.c = is.reported.greatest.stands in
-    let body : BodyIs p.c cert = elim is.found [
-      | inl fixed ↦ fixed_body p.c (election_for p x) cert fixed
-      | inr found ↦ margin_body p x found.0 cert poll stands found.1
-    ] in
-    record {
-      rule = subst IsRule (sym is.rule) tt;
-      sizes = (omega (arith, poll.some, is.candidates), omega (arith, poll.most, is.candidates), omega (arith, poll.few, is.ballots));
-      reported = subst (λ r. OutcomeFits r cert.c cert.reported) (sym is.rule) (subst (OutcomeFits Plurality cert.c) (sym is.outcome) (omega (arith, stands, poll.most)));
-      claim = body.claim;
-      body = subst (λ c. BodyFits c cert.claim cert.goal cert.puts) (sym is.candidates) body.body;
-      lines = body.tree.lines;
-      depth = body.tree.low;
-      nodes = body.tree.small;
-    }
+-- a pair's body
+pub pair_body : (p : Poll) (g l k : ℕ) (puts : List Put) → IsPoll p → g < p.c → l < p.c → IsAlteration p (pairs_of puts) → length puts ≡ k
+    → TurnFits p.c k (Some (Pair g l)) puts
+pair_body p g l k puts poll below_g below_l ok many = (
+  (omega (arith, below_g, poll.most), omega (arith, below_l, poll.most)),
+  (many, puts_fit p.c 1 (length p.ballots) puts poll.most poll.few ok),
+)

@@ -1,60 +1,84 @@
--- A cut for each challenger: as many as there are goals below the root.
-use Rattle.std.proofs.Common.{ℕ, zero, suc, List, [], ◌∷◌, Bool, true, false, ◌≡◌, ◌≢◌, ◌<◌, ◌≤◌, ◌+◌, ◌-◌, ◌∙◌, cond, length, map, replicate, Result, Ok, Err, IfOk, ap, sym, refl, inl, inr, arith}
+-- A cut for each root goal.
+use Rattle.std.proofs.Common.{ℕ, zero, suc, List, [], ◌∷◌, ◌≡◌, ◌<◌, ◌≤◌, ◌*◌, ◌∙◌, length, map, replicate, ap, sym, refl, subst, absurd, arith}
+use Rattle.std.proofs.Math.Nat.{mul-le-mul_left}
+use Rattle.std.proofs.lemmas.List.{length-map}
 use Rattle.std.specs.Prelude.{◌==◌, not}
-use Rattle.std.proofs.lemmas.Bool.{cases_eq}
-use Rattle.std.proofs.lemmas.List.{length-append, length-map}
-use Rattle.ballot_form.specs.declared.outcome.Outcome.TheVariants.{Winner}
-use Rattle.ballot_form.specs.declared.rule.Rule.TheVariants.{Plurality}
+use Rattle.std.specs.List.{flat_map, range_with_len}
+use Rattle.ballot_form.specs.Ballots.{IsPoll, Poll}
+use Rattle.ballot_form.specs.declared.limits.TheConstants.{MOST_CANDIDATES}
+use Rattle.ballot_form.specs.declared.outcome.Outcome.{Outcome}
+use Rattle.ballot_form.specs.declared.outcome.Outcome.TheVariants.{Winner, NoWinner, Seats}
+use Rattle.ballot_form.specs.declared.rule.Rule.{Rule}
+use Rattle.ballot_form.specs.declared.rule.Rule.TheVariants.{Plurality, Borda, Condorcet, Dhondt, Irv}
 use Rattle.bound_tree.specs.Growth.{cuts_of}
 use Rattle.bound_tree.specs.Plain.{Plain, Split}
-use Rattle.goal_rows.specs.Goals.{root_goals, those}
+use Rattle.goal_rows.specs.Goals.{is_seated, root_goals, those}
+use Rattle.goal_rows.specs.Outcomes.{IsReported}
 use Rattle.goal_rows.specs.declared.goals.Goal.{Goal}
 use Rattle.goal_rows.specs.declared.goals.Goal.TheVariants.{Pair}
-use Rattle.goal_rows.proofs.Lists.{is_no_other, is_other, those_suc}
-use Rattle.margin_solve.specs.Certificates.{tree_for}
+use Rattle.goal_rows.proofs.Lists.{lists_few, made_few}
+use Rattle.margin_check.specs.Verdicts.{IsJudged}
+use Rattle.margin_solve.specs.Certificates.{split_for, tree_for}
 
-abbrev others : ℕ → ℕ → List ℕ
-others c x = those c (λ j. not (j == x))
+-- ---- there are few root goals
 
-one_if : (t : Bool) (j : ℕ) → length (cond t (j ∷ []) []) ≡ cond t 1 0
-one_if true j = refl
-one_if false j = refl
+square : (c n : ℕ) → c ≤ 12 → n ≤ c → n ≤ 144
+square c n few small = omega (arith, few, small)
 
-one_more : (c x : ℕ) → length (others (suc c) x) ≡ length (others c x) + cond (not (c == x)) 1 0
-one_more c x =
-    let test : ℕ → Bool = λ j. not (j == x) in
-    ap length (those_suc c test) ∙ length-append (others c x) (cond (test c) (c ∷ []) []) ∙ ap (λ n. length (others c x) + n) (one_if (test c) c)
+product : (c : ℕ) → c ≤ 12 → c * c ≤ 144
+product c few = omega (arith, mul-le-mul_left c few, few)
 
--- everyone below x is another candidate
-all_below : (c x : ℕ) → c ≤ x → length (others c x) ≡ c
-all_below zero x low = refl
-all_below (suc c) x low =
-    let differ : c ≢ x = λ e. omega arith in
-    let e = is_other c x differ in
-    one_more c x ∙ rw e (omega (arith, all_below c x (omega arith)))
+roots_by : (rule : Rule) (c : ℕ) (o : Outcome) → c ≤ 12 → length (root_goals rule c o) ≤ 144
+roots_by Plurality c (Winner x) few = square c _ few (made_few (λ j. Pair j x) c (λ j. not (j == x)))
+roots_by Borda c (Winner x) few = square c _ few (made_few (λ j. Pair j x) c (λ j. not (j == x)))
+roots_by Condorcet c (Winner x) few = square c _ few (made_few (λ j. Pair j x) c (λ j. not (j == x)))
+roots_by (Dhondt s) c (Seats shares) few =
+    let many = lists_few (λ g. map (λ l. Pair g l) (those c (is_seated shares g))) c c (λ g. made_few (λ l. Pair g l) c (is_seated shares g)) in
+    omega (arith, many, product c few)
+roots_by Irv c o few = omega arith
+roots_by Plurality c NoWinner few = omega arith
+roots_by Plurality c (Seats shares) few = omega arith
+roots_by Borda c NoWinner few = omega arith
+roots_by Borda c (Seats shares) few = omega arith
+roots_by Condorcet c NoWinner few = omega arith
+roots_by Condorcet c (Seats shares) few = omega arith
+roots_by (Dhondt s) c (Winner x) few = omega arith
+roots_by (Dhondt s) c NoWinner few = omega arith
 
-all_but_one : (c x : ℕ) → x < c → length (others c x) ≡ c - 1
-all_but_one zero x lt = absurd (omega arith)
-all_but_one (suc c) x lt = elim (cases_eq c x) [
-  | inl same ↦ one_more c x ∙ rw (is_no_other c x same) (omega (arith, all_below c x (omega arith)))
-  | inr differ ↦ one_more c x ∙ rw (is_other c x differ) (omega (arith, all_but_one c x (omega arith)))
-]
+pub roots_few : (rule : Rule) (p : Poll) (o : Outcome) (roots : List Goal) → IsPoll p → roots ≡ root_goals rule p.c o → length roots ≤ 144
+roots_few rule p o roots poll is = rw is (roots_by rule p.c o (omega (arith, poll.most)))
 
--- equal items
+-- ---- one candidate has no goals
+
+none_beside : (x : ℕ) → x < 1 → map (λ j. Pair j x) (those 1 (λ j. not (j == x))) ≡ []
+none_beside zero lt = refl
+none_beside (suc x) lt = absurd (omega arith)
+
+alone_by : (rule : Rule) (p : Poll) (o : Outcome) → IsJudged rule → IsReported rule p o → p.c ≡ 1 → root_goals rule 1 o ≡ []
+alone_by Plurality p (Winner x) judged is one = none_beside x (omega (arith, one, is.greatest.stands))
+alone_by Borda p (Winner x) judged is one = none_beside x (omega (arith, one, is.greatest.stands))
+alone_by (Dhondt s) p (Seats shares) judged is one = refl
+alone_by Irv p o judged is one = absurd judged
+alone_by Condorcet p o judged is one = absurd judged
+alone_by Plurality p NoWinner judged is one = refl
+alone_by Plurality p (Seats shares) judged is one = refl
+alone_by Borda p NoWinner judged is one = refl
+alone_by Borda p (Seats shares) judged is one = refl
+alone_by (Dhondt s) p (Winner x) judged is one = refl
+alone_by (Dhondt s) p NoWinner judged is one = refl
+
+pub alone_without_goals : (rule : Rule) (p : Poll) (o : Outcome) → IsJudged rule → IsReported rule p o → p.c ≡ 1 → root_goals rule p.c o ≡ []
+alone_without_goals rule p o judged is one = rw one (alone_by rule p o judged is one)
+
+-- ---- equal cuts
+
 same_each : (A B : Type 0) (b : B) (xs : List A) → map (λ x. b) xs ≡ replicate (length xs) b
 same_each A B b [] = refl
 same_each A B b (x ∷ xs) = ap (λ rest. b ∷ rest) (same_each A B b xs)
 
-challengers : (c x : ℕ) → x < c → map {B = List ℕ} (λ goal. 1 ∷ []) (root_goals Plurality c (Winner x)) ≡ replicate (c - 1) (1 ∷ [])
-challengers c x lt =
-    same_each Goal (List ℕ) (1 ∷ []) (root_goals Plurality c (Winner x))
-    ∙ ap (λ n. replicate n (1 ∷ [])) (length-map (others c x) (λ j. Pair j x) ∙ all_but_one c x lt)
+pub split_is : (roots : List Goal) → Split (cuts_of (replicate (length roots) (1 ∷ []))) ≡ split_for roots
+split_is roots = ap (λ lists. Split (cuts_of lists)) (sym (same_each Goal (List ℕ) (1 ∷ []) roots))
 
-split_shows : (c x k : ℕ) (tree : Plain) → x < c → k ≢ 0 → tree ≡ Split (cuts_of (replicate (c - 1) (1 ∷ []))) → tree ≡ tree_for (root_goals Plurality c (Winner x)) k
-split_shows c x zero tree lt some is = absurd (some refl)
-split_shows c x (suc k) tree lt some is = is ∙ ap (λ lists. Split (cuts_of lists)) (sym (challengers c x lt))
-
-pub split_shown : {E : Type 0} (made : Result Plain E) (c k : ℕ) → k ≢ 0 → IfOk made (λ tree. tree ≡ Split (cuts_of (replicate (c - 1) (1 ∷ []))))
-    → IfOk made (λ tree. (x : ℕ) → x < c → tree ≡ tree_for (root_goals Plurality c (Winner x)) k)
-split_shown (Ok tree) c k some is = λ x lt. split_shows c x k tree lt some is
-split_shown (Err fault) c k some is = tt
+pub split_shown : (roots : List Goal) (k : ℕ) (tree : Plain) → (k ≡ 0 → ⊥) → tree ≡ Split (cuts_of (replicate (length roots) (1 ∷ []))) → tree ≡ tree_for roots k
+split_shown roots zero tree some is = absurd (some refl)
+split_shown roots (suc k) tree some is = is ∙ split_is roots

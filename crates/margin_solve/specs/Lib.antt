@@ -1,3 +1,1 @@
-pub mod Nearest
 pub mod Certificates
-pub mod Cheapest

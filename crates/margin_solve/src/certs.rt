@@ -1,102 +1,103 @@
 // Certificates made of what was found.
-ghost use Rattle.std.specs.Prelude.{◌≡◌, ◌≤◌, ◌<◌, ◌∷◌, [], ℕ, IfOk, replicate};
-ghost use Rattle.ballot_form.specs.Scores.{plurality_points};
-ghost use Rattle.ballot_form.specs.declared.outcome.Outcome.TheVariants.{Winner};
-ghost use Rattle.ballot_form.specs.declared.rule.Rule.TheVariants.{Plurality};
+ghost use Rattle.std.specs.Prelude.{◌≡◌, ◌≤◌, ◌∷◌, [], IfOk, length, map, replicate};
+ghost use Rattle.alteration_model.specs.Faults.{pairs_of};
 ghost use Rattle.bound_tree.specs.Growth.{cuts_of};
 ghost use Rattle.bound_tree.specs.Plain.{Split};
+ghost use Rattle.cert_text.specs.CertText.{IsPrintable};
 ghost use Rattle.goal_rows.specs.Goals.{root_goals};
-ghost use Rattle.goal_rows.specs.Outcomes.{IsLowestWithGreatest};
-ghost use Rattle.margin_solve.specs.Cheapest.{IsPluralityMargin};
-ghost use Rattle.margin_solve.specs.Certificates.{IsCertOf, claimed, tree_for};
+ghost use Rattle.goal_rows.specs.Races.{IsRace, election_of};
+ghost use Rattle.margin_check.specs.Verdicts.{IsJudged};
+ghost use Rattle.margin_solve.specs.Certificates.{IsCertOf, tree_for};
+ghost use Rattle.witness_build.specs.Witnesses.{IsMetBy, IsStartWitness};
 
-use crate::challengers::Target;
-use alteration_model::{Put, PutList};
-use ballot_form::{Cand, CandList, Outcome, Roll, Rule};
+use crate::limits::LEAST_BUDGET;
+use alteration_model::{Alteration, Put, PutList};
+use ballot_form::CandList;
 use bound_tree::{BoundTree, GrowFault, MultiplierLists, Multipliers};
 use cert_text::{Cert, Claim, GoalText};
+use goal_rows::Goal;
+use goal_rows::parts::Race;
 use mov_base::Memory;
 use std::alloc::{AllocError, Global};
+use witness_build::Witness;
 
 /// The certificate of a contest of one candidate: nothing turns it.
-#[tactic(auto, using(crate::proofs::Nearest::alone_found))]
-pub(crate) fn fixed_cert(alloc: Global, roll: &Roll, winner: Cand) -> Result<Cert, Memory>
-    requires alone { roll.now.c ≡ 1 }
-    requires reported { IsLowestWithGreatest plurality_points roll.now winner }
-    ensures { IfOk result (λ cert. IsCertOf roll.now cert) }
+pub(crate) fn fixed_cert(alloc: Global, race: &Race<'_>) -> Result<Cert, Memory>
+    requires race { IsRace race.now }
+    requires own { race.now.roots ≡ root_goals race.now.rule race.now.roll.now.c race.now.reported }
+    requires judged { IsJudged race.now.rule }
+    requires alone { race.now.roll.now.c ≡ 1 }
+    ensures found { IfOk result (IsCertOf race.now.rule LEAST_BUDGET race.now.roll.now) }
+    ensures printable { IfOk result IsPrintable }
 {
-    let tree = split_tree(alloc, 0)?;
     Ok(Cert {
-        rule: Rule::Plurality,
-        c: roll.candidates(),
-        ballots: roll.len(),
-        reported: Outcome::Winner(winner),
+        rule: race.rule,
+        c: race.roll.candidates(),
+        ballots: race.roll.len(),
+        reported: race.reported.copy()?,
         claim: Claim::Fixed,
         goal: None,
         puts: PutList::new(alloc),
-        tree,
+        tree: split_tree(alloc, 0)?,
     })
 }
 
-/// The certificate of a contest of two candidates or more.
-#[tactic(auto, using(crate::proofs::Printing::count_few))]
-pub(crate) fn margin_cert(
-    alloc: Global,
-    roll: &Roll,
-    winner: Cand,
-    target: Target,
-) -> Result<Cert, Memory>
-    requires others { 2 ≤ roll.now.c }
-    requires reported { IsLowestWithGreatest plurality_points roll.now winner }
-    requires cheapest { IsPluralityMargin roll.now winner target.challenger target.numbers }
-    ensures { IfOk result (λ cert. IsCertOf roll.now cert) }
+/// The certificate of a contest of two candidates or more, whose cheapest replacements are these.
+pub(crate) fn margin_cert(alloc: Global, race: &Race<'_>, witness: &Witness) -> Result<Cert, Memory>
+    requires race { IsRace race.now }
+    requires own { race.now.roots ≡ root_goals race.now.rule race.now.roll.now.c race.now.reported }
+    requires judged { IsJudged race.now.rule }
+    requires others { 2 ≤ race.now.roll.now.c }
+    requires start { IsStartWitness (election_of race.now) witness.now.goal witness.now.changes }
+    requires met { IsMetBy (election_of race.now) witness.now.goal witness.now.changes }
+    ensures found { IfOk result (IsCertOf race.now.rule LEAST_BUDGET race.now.roll.now) }
+    ensures printable { IfOk result IsPrintable }
 {
-    let c = roll.candidates();
-    let count = target.numbers.len() as u32;
-    let tree = tree_of(alloc, c, count)?;
-    let puts = puts_of(alloc, target.challenger, target.numbers.as_slice())?;
+    let Goal::Pair(gainer, loser) = witness.goal else {
+        unreachable!()
+    };
+    let count = witness.changes.len();
     Ok(Cert {
-        rule: Rule::Plurality,
-        c,
-        ballots: roll.len(),
-        reported: Outcome::Winner(winner),
+        rule: race.rule,
+        c: race.roll.candidates(),
+        ballots: race.roll.len(),
+        reported: race.reported.copy()?,
         claim: Claim::Margin(count),
-        goal: Some(GoalText::Pair(target.challenger, winner)),
-        puts,
-        tree,
+        goal: Some(GoalText::Pair(gainer, loser)),
+        puts: puts_of(alloc, &witness.changes)?,
+        tree: tree_of(alloc, race, count)?,
     })
 }
 
-/// The replacements of these ballots by the one that ranks the challenger alone.
-#[tactic(auto, using(crate::proofs::Printing::one_put_more))]
-fn puts_of(alloc: Global, challenger: Cand, numbers: &[u32]) -> Result<PutList, Memory>
-    ensures { IfOk result (λ puts. puts ≡ claimed challenger numbers.now) }
+/// The replacements as they are printed.
+fn puts_of(alloc: Global, changes: &Alteration) -> Result<PutList, Memory>
+    ensures { IfOk result (λ puts. pairs_of puts ≡ changes.now) }
 {
-    let mut puts = Vec::with_capacity(alloc, numbers.len())?;
-    for number in numbers {
+    let mut puts = Vec::with_capacity(alloc, changes.len() as usize)?;
+    for i in 0..changes.len() {
         puts.push(Put {
-            number: *number,
-            ballot: CandList::from_slice(alloc, [challenger].as_slice())?,
+            number: changes.number(i),
+            ballot: CandList::from_slice(alloc, changes.ballot(i))?,
         })?;
     }
     Ok(PutList::from_vec(puts))
 }
 
-/// The tree that shows so many, whoever of the c candidates is reported.
-#[tactic(auto, using(crate::proofs::Trees::split_shown))]
-fn tree_of(alloc: Global, c: u8, count: u32) -> Result<BoundTree, Memory>
-    requires some { 1 ≤ c }
-    ensures { IfOk result (λ tree. (x : ℕ) → x < c → tree ≡ tree_for (root_goals Plurality c (Winner x)) count) }
+/// The tree that shows that fewer replacements than so many don't do.
+fn tree_of(alloc: Global, race: &Race<'_>, count: u32) -> Result<BoundTree, Memory>
+    requires few { length race.now.roots ≤ 144 }
+    ensures { IfOk result (λ tree. tree ≡ tree_for race.now.roots count) }
 {
     if count == 0 {
         Ok(BoundTree::leaf(alloc, Multipliers::new(alloc)))
     } else {
-        split_tree(alloc, c - 1)
+        split_tree(alloc, race.roots.len())
     }
 }
 
 /// The root split into so many cuts with the multiplier 1.
-fn split_tree(alloc: Global, count: u8) -> Result<BoundTree, Memory>
+fn split_tree(alloc: Global, count: usize) -> Result<BoundTree, Memory>
+    requires few { count ≤ 144 }
     ensures { IfOk result (λ tree. tree ≡ Split (cuts_of (replicate count (1 ∷ [])))) }
 {
     let kids = ones(alloc, count)?;
@@ -110,7 +111,7 @@ fn split_tree(alloc: Global, count: u8) -> Result<BoundTree, Memory>
 
 /// So many lists of the multiplier 1 alone.
 #[tactic(auto, using(crate::proofs::Printing::one_list_more))]
-fn ones(alloc: Global, count: u8) -> Result<MultiplierLists, Memory>
+fn ones(alloc: Global, count: usize) -> Result<MultiplierLists, Memory>
     ensures { IfOk result (λ lists. lists ≡ replicate count (1 ∷ [])) }
 {
     let mut lists = MultiplierLists::new(alloc);

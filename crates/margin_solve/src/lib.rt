@@ -1,13 +1,12 @@
 //! The certificate of a contest: its margin, the replacements that reach it, and the tree of bounds that shows that fewer don't.
 //!
-//! So far the rule is plurality, whose cheapest replacements are known without a search. `margin` promises that the number is the
-//! margin by the definition that speaks of all alterations, that the replacements have that length and turn the outcome, and that the
-//! certificate can be printed. The crate stands on the goals of `goal_rows`, the scores of `score_count` and the certificates of
-//! `cert_text`.
+//! So far the rule is plurality, Borda or D'Hondt, whose cheapest replacements are known without a search: those of a root pair.
+//! `margin` promises that the certificate is valid, as the checker judges, that what it claims is so, by the definition that speaks
+//! of all alterations, and that it can be printed. The crate stands on the goals of `goal_rows`, the witnesses of `witness_build`,
+//! the certificates of `cert_text`, and the validity of `margin_check`.
 #![tactic(auto)]
 
 mod certs;
-mod challengers;
 mod limits;
 mod margins;
 

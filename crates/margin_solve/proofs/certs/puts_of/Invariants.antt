@@ -1,6 +1,6 @@
 use Rattle.std.proofs.Common.{◌≡◌, take}
-use Rattle.margin_solve.specs.Certificates.{claimed}
+use Rattle.alteration_model.specs.Faults.{pairs_of}
 use Rattle.margin_solve.proofs.certs.puts_of.Given as goal
 
-abbrev pub invariant-loop-number : goal.invariant-loop-number
-invariant-loop-number l = l.puts.items ≡ claimed l.challenger (take l.number-index l.numbers)
+abbrev pub invariant-loop-i : goal.invariant-loop-i
+invariant-loop-i l = pairs_of l.puts.items ≡ take l.i l.changes
