@@ -5,7 +5,7 @@ use Rattle.row_program.specs.Forms.{Table, first_form, first_large_of}
 use Rattle.row_program.specs.Method.{leaving, entering, run_of, IsBest, IsWide}
 use Rattle.row_program.specs.declared.program.Program.{Program}
 use Rattle.pivot_form.proofs.FirstForm.{first_narrow}
-use Rattle.dual_theory.proofs.Measures.{measure}
+use Rattle.dual_theory.specs.Measures.{measure}
 use Rattle.dual_theory.specs.Ends.{large_in_point, HasEnd}
 use Rattle.dual_theory.specs.Runs.{GoesOn}
 use Rattle.dual_theory.proofs.Found.{option_cases}

@@ -17,7 +17,7 @@ use Rattle.pivot_form.proofs.NextForm.{IsShaped}
 use Rattle.pivot_form.proofs.Equations.{small_rows_from_none}
 use Rattle.dual_theory.proofs.FormValues.{IsRun}
 use Rattle.dual_theory.specs.Runs.{num_in, den_in, value_num, value_den, gain, IsAbove}
-use Rattle.dual_theory.proofs.Measures.{digit, number, measure}
+use Rattle.dual_theory.specs.Measures.{digit, number, measure}
 use Rattle.dual_theory.proofs.Found.{option_cases}
 use Rattle.dual_theory.proofs.Runs.{value_count_is, next_kept}
 use Rattle.dual_theory.proofs.Rising.{value_den_positive, next_above}

@@ -1,5 +1,4 @@
 pub mod FormValues
-pub mod Measures
 pub mod Lex
 pub mod Sums
 pub mod Tests

@@ -1,3 +1,4 @@
 pub mod Runs
+pub mod Measures
 pub mod Ends
 pub mod Multipliers

@@ -14,7 +14,7 @@ use Rattle.dual_theory.proofs.FormValues.{IsRun}
 use Rattle.dual_theory.specs.Ends.{IsWideSize, large_in_point, point_whole, point_den}
 use Rattle.dual_theory.specs.Multipliers.{multipliers_of, slack_sizes, divisor_of, BoundsCost, RulesOut}
 use Rattle.dual_theory.proofs.Wide.{not_wide_best, not_wide_never, later_narrow}
-use Rattle.dual_theory.proofs.Measures.{measure}
+use Rattle.dual_theory.specs.Measures.{measure}
 use Rattle.dual_theory.proofs.Runs.{run_kept, value_count_is, leaving_not_cost}
 use Rattle.dual_theory.proofs.Chosen.{leaving_row, entering_column, entering_negative, entering_free, step_is_next, step_stays_best}
 use Rattle.dual_theory.proofs.Falling.{measure_falls}

@@ -2,7 +2,7 @@ use Rattle.std.proofs.Common.{arith, ◌≡◌, ap, sym, ◌∙◌, ◌<◌, len
 use Rattle.std.proofs.lemmas.Result.{err_from_is_err_and}
 use Rattle.std.proofs.lemmas.List.{with_items_is}
 use Rattle.row_program.specs.Forms.{Table, next_form}
-use Rattle.dual_theory.proofs.Measures.{measure}
+use Rattle.dual_theory.specs.Measures.{measure}
 use Rattle.lex_dual.specs.Choices.{places_of}
 use Rattle.lex_dual.specs.Reached.{IsReached}
 use Rattle.dual_theory.proofs.Rising.{rises, none_twice, columns_positive}

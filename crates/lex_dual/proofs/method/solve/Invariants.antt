@@ -1,5 +1,5 @@
 use Rattle.std.proofs.Common.{◌≡◌}
-use Rattle.dual_theory.proofs.Measures.{measure}
+use Rattle.dual_theory.specs.Measures.{measure}
 use Rattle.lex_dual.specs.Choices.{places_of}
 use Rattle.lex_dual.specs.Reached.{IsReached}
 use Rattle.lex_dual.proofs.method.solve.Given as goal
