@@ -1,8 +1,8 @@
 use Rattle.std.proofs.Common.{All, ◌≡◌, ◌+◌, ◌∙◌, ap, arith, length, refl, subst, sym}
 use Rattle.ballot_form.specs.Ballots.{Poll}
 use Rattle.goal_rows.specs.Outcomes.{IsReported}
-use Rattle.margin_check.specs.Validity.{cert_visits, election_by, level_of}
-use Rattle.margin_check.specs.Verdicts.{IsFirstWithout}
+use Rattle.margin_check.specs.Validity.{HasSizes, cert_visits, election_by, level_of}
+use Rattle.margin_check.specs.Verdicts.{IsFirstWithout, IsJudged}
 use Rattle.margin_check.specs.Walks.{Gives}
 use Rattle.margin_check.specs.declared.verdict.Reason.TheVariants as reasons
 use Rattle.margin_check.specs.declared.walk.Asked.TheVariants.{Shape, Cuts}
@@ -35,7 +35,7 @@ returns-then-not-claim_holds c =
     let p = c.args.roll.now in
     let cert = c.args.cert.now in
     let race = c.in_ok-race.race in
-    let judged = (c.is_judged.ensures.0 c.if-not-is_judged.false, c.has_sizes.ensures.0 c.if-not-has_sizes.false) in
+    let judged : IsJudged cert.rule × HasSizes p cert = (c.is_judged.ensures.0 c.if-not-is_judged.false, c.has_sizes.ensures.0 c.if-not-has_sizes.false) in
     let so = known p cert race c.in_ok-race.ensures.race c.in_ok-race.ensures.rule c.in_ok-race.ensures.roll (c.equals.ensures.0 c.if-not-equals.false) c.in_ok-race.ensures.roots
     c.in_ok-altered.altered c.as_slice.result.now c.in-Ok.changes c.claim_holds.result c.in_ok-altered.ensures c.in-Ok.ensures.gives.1 c.as_slice.ensures c.in-Ok.ensures.alteration
     c.claim_holds.ensures in
@@ -49,7 +49,7 @@ returns-in-Stopped c =
     let p = c.args.roll.now in
     let cert = c.args.cert.now in
     let race = c.in_ok-race.race in
-    let judged = (c.is_judged.ensures.0 c.if-not-is_judged.false, c.has_sizes.ensures.0 c.if-not-has_sizes.false) in
+    let judged : IsJudged cert.rule × HasSizes p cert = (c.is_judged.ensures.0 c.if-not-is_judged.false, c.has_sizes.ensures.0 c.if-not-has_sizes.false) in
     let so = known p cert race c.in_ok-race.ensures.race c.in_ok-race.ensures.rule c.in_ok-race.ensures.roll (c.equals.ensures.0 c.if-not-equals.false) c.in_ok-race.ensures.roots
     c.in_ok-altered.altered c.as_slice.result.now c.in-Ok.changes c.claim_holds.result c.in_ok-altered.ensures c.in-Ok.ensures.gives.1 c.as_slice.ensures c.in-Ok.ensures.alteration
     c.claim_holds.ensures in
@@ -65,7 +65,7 @@ returns-in-Stopped-2 c =
     let p = c.args.roll.now in
     let cert = c.args.cert.now in
     let race = c.in_ok-race.race in
-    let judged = (c.is_judged.ensures.0 c.if-not-is_judged.false, c.has_sizes.ensures.0 c.if-not-has_sizes.false) in
+    let judged : IsJudged cert.rule × HasSizes p cert = (c.is_judged.ensures.0 c.if-not-is_judged.false, c.has_sizes.ensures.0 c.if-not-has_sizes.false) in
     let so = known p cert race c.in_ok-race.ensures.race c.in_ok-race.ensures.rule c.in_ok-race.ensures.roll (c.equals.ensures.0 c.if-not-equals.false) c.in_ok-race.ensures.roots
     c.in_ok-altered.altered c.as_slice.result.now c.in-Ok.changes c.claim_holds.result c.in_ok-altered.ensures c.in-Ok.ensures.gives.1 c.as_slice.ensures c.in-Ok.ensures.alteration
     c.claim_holds.ensures in
@@ -87,7 +87,7 @@ returns-then-not-has_order c =
     let p = c.args.roll.now in
     let cert = c.args.cert.now in
     let race = c.in_ok-race.race in
-    let judged = (c.is_judged.ensures.0 c.if-not-is_judged.false, c.has_sizes.ensures.0 c.if-not-has_sizes.false) in
+    let judged : IsJudged cert.rule × HasSizes p cert = (c.is_judged.ensures.0 c.if-not-is_judged.false, c.has_sizes.ensures.0 c.if-not-has_sizes.false) in
     let so = known p cert race c.in_ok-race.ensures.race c.in_ok-race.ensures.rule c.in_ok-race.ensures.roll (c.equals.ensures.0 c.if-not-equals.false) c.in_ok-race.ensures.roots
     c.in_ok-altered.altered c.as_slice.result.now c.in-Ok.changes c.claim_holds.result c.in_ok-altered.ensures c.in-Ok.ensures.gives.1 c.as_slice.ensures c.in-Ok.ensures.alteration
     c.claim_holds.ensures in
@@ -106,7 +106,7 @@ returns c =
     let p = c.args.roll.now in
     let cert = c.args.cert.now in
     let race = c.in_ok-race.race in
-    let judged = (c.is_judged.ensures.0 c.if-not-is_judged.false, c.has_sizes.ensures.0 c.if-not-has_sizes.false) in
+    let judged : IsJudged cert.rule × HasSizes p cert = (c.is_judged.ensures.0 c.if-not-is_judged.false, c.has_sizes.ensures.0 c.if-not-has_sizes.false) in
     let so = known p cert race c.in_ok-race.ensures.race c.in_ok-race.ensures.rule c.in_ok-race.ensures.roll (c.equals.ensures.0 c.if-not-equals.false) c.in_ok-race.ensures.roots
     c.in_ok-altered.altered c.as_slice.result.now c.in-Ok.changes c.claim_holds.result c.in_ok-altered.ensures c.in-Ok.ensures.gives.1 c.as_slice.ensures c.in-Ok.ensures.alteration
     c.claim_holds.ensures in
