@@ -74,7 +74,7 @@ few_at f s [] (suc k) few = omega arith
 few_at f s (x ∷ xs) zero few = few x
 few_at f s (x ∷ xs) (suc k) few = few_at f s xs k few
 
-few_seats : (votes : List ℕ) (s a : ℕ) → seats_of votes s a ≤ s
+pub few_seats : (votes : List ℕ) (s a : ℕ) → seats_of votes s a ≤ s
 few_seats votes s a =
     let n = count_by-le-length (λ q. nat_lt (before votes s a q) s) (range_with_len 1 s) in
     let m = length-range_with_len 1 s in

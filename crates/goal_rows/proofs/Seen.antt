@@ -1,5 +1,5 @@
 -- What a rule looks at on a ballot is enough for what the ballot counts under it.
-use Rattle.std.proofs.Common.{◌≡◌, ◌+◌, ◌-◌, ◌∷◌, ◌∙◌, ◌⊎◌, ℕ, List, [], Bool, Result, Ok, Err, IfOk, cond, map, take, ap, sym, refl, inl, inr}
+use Rattle.std.proofs.Common.{◌≡◌, ◌+◌, ◌-◌, ◌∷◌, ◌∙◌, ◌⊎◌, ℕ, List, [], Result, Ok, Err, IfOk, cond, map, take, ap, sym, refl, inl, inr}
 use Rattle.std.specs.Str.{bytes_eq}
 use Rattle.std.proofs.lemmas.List.{map-id}
 use Rattle.signature_class.specs.Classes.{classes_of}

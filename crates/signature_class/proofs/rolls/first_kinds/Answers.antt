@@ -1,4 +1,4 @@
-use Rattle.std.proofs.Common.{◌≡◌, ◌∙◌, map, length, ap, sym, arith}
+use Rattle.std.proofs.Common.{◌∙◌, map, arith}
 use Rattle.std.proofs.lemmas.List.{length-map}
 use Rattle.signature_class.specs.Classes.{first_part}
 use Rattle.signature_class.proofs.Counts.{few_of_row, kinds_more, part_at}
