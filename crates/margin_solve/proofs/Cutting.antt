@@ -1,5 +1,5 @@
 -- Where the cheapest replacements of the root's pairs are so many, a cut with the multiplier 1 for each pair shows it.
-use Rattle.std.proofs.Common.{ℕ, zero, suc, List, [], ◌∷◌, All, Some, ◌≡◌, ◌<◌, ◌≤◌, ◌+◌, ◌-◌, ◌*◌, ◌∙◌, length, map, ap, sym, refl, subst, absurd, inl, inr, arith}
+use Rattle.std.proofs.Common.{ℕ, zero, suc, List, [], ◌∷◌, All, Some, ◌≡◌, ◌<◌, ◌≤◌, ◌+◌, ◌-◌, ◌*◌, ◌∙◌, length, map, ap, sym, refl, subst, inl, inr, arith}
 use Rattle.std.specs.Prelude.{ℤ, pos, ◌+ℤ◌, ◌-ℤ◌, ◌*ℤ◌, ◌<ℤ◌, slice_index_or}
 use Rattle.std.proofs.lemmas.Int.{ints}
 use Rattle.std.proofs.lemmas.List.{get_or_default}
@@ -38,6 +38,10 @@ same_gains e g l are (ballot ∷ ballots) =
     ap (λ n. n ∷ map (λ key. 1 * ((top + 1024) - key)) (map (key_of e (Pair g l)) ballots)) one
     ∙ ap (λ ns. ((top + loser_points e g l ballot) - gainer_points e g l ballot) ∷ ns) rest
 
+below_zero : (value : ℤ) (plus minus gained : ℕ) → value ≡ pos plus -ℤ pos minus → gained < minus - plus
+    → ((pos 1 *ℤ value) +ℤ pos gained) <ℤ pos 0
+below_zero value plus minus gained is less = omega (arith, ints, is, less)
+
 -- a pair that isn't brought level by one fewer is cut at k
 pub short_is_cut : (e : Election) (g l k : ℕ) → IsElection e → IsRootOf e (Pair g l) → suc k ≤ length e.poll.ballots + 1
     → (PairReaches e g l k → ⊥) → Cuts e (without_limits (Pair g l)) (1 ∷ []) (suc k)
@@ -51,9 +55,11 @@ short_is_cut e g l k is root within short =
       | inr ge ↦ absurd (short ge)
     ]) in
     let weight = sum_z-difference (gainer_points e g l) (loser_points e g l) e.poll.ballots in
-    let here : most k gains ≡ most k (pair_gains e g l) = ap (most k) same in
+    let step : suc k - 1 ≡ k = omega arith in
+    let here : most (suc k - 1) gains ≡ most k (pair_gains e g l) = ap (λ n. most n gains) step ∙ ap (most k) same in
     (one_pair e g l 1 (suc k) are root.1 within).0
-    (inr (omega (arith, ints, less, weight, here)))
+    (inr (below_zero (sum_z (pair_weight e g l) e.poll.ballots) (add_up (gainer_points e g l) e.poll.ballots) (add_up (loser_points e g l) e.poll.ballots)
+    (most (suc k - 1) gains) weight (omega (arith, less, here))))
 
 -- each root pair is
 abbrev AreShort : Election → ℕ → List Goal → Type 0
@@ -69,7 +75,7 @@ prove_all e k (Pair g l ∷ goals) short = (
 
 pub proved_by : (e : Election) (goal : Goal) (changes : List (ℕ × List ℕ)) (k : ℕ) → IsElection e → IsStartWitness e goal changes
     → k ≡ length changes → length changes ≤ length e.poll.ballots → Proves e k (without_limits Root) (tree_for e.roots k)
-proved_by e goal changes zero is start count few = (refl, inl refl)
+proved_by e goal changes zero is start count few = (refl, inl (omega arith))
 proved_by e goal changes (suc k) is start count few = (refl, (e.roots, refl, prove_all e (suc k) e.roots short))
   where
     cut_at : (at : ℕ) → at < length e.roots → (root : Goal) → slice_index_or e.roots at Root ≡ root → IsRootOf e root

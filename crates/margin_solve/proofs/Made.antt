@@ -1,5 +1,5 @@
 -- The certificates that are made are those of their contest.
-use Rattle.std.proofs.Common.{ℕ, List, [], ◌∷◌, Some, ◌≡◌, ◌<◌, ◌≤◌, ◌+◌, ◌∙◌, ◌⊎◌, Option, All, length, map, ap, sym, refl, subst, absurd, inl, inr, arith}
+use Rattle.std.proofs.Common.{ℕ, List, [], ◌∷◌, Some, ◌≡◌, ◌<◌, ◌≤◌, ◌+◌, ◌∙◌, ◌⊎◌, Option, All, length, map, ap, sym, refl, subst, inl, inr, arith}
 use Rattle.std.specs.Prelude.{None as Nothing}
 use Rattle.std.specs.Prelude.{slice_index_or}
 use Rattle.std.proofs.lemmas.List.{length-map}

@@ -1,8 +1,9 @@
 -- Certificates of contests that are decided by pairs are within the limits of their text.
-use Rattle.std.proofs.Common.{ℕ, zero, suc, List, [], ◌∷◌, ◌++◌, Some, None, Option, ◌≡◌, ◌<◌, ◌≤◌, ◌+◌, ◌∙◌, length, map, All, replicate, sym, refl, ap, subst, absurd, inl, inr, arith}
-use Rattle.std.specs.Prelude.{slice_index}
+use Rattle.std.proofs.Common.{ℕ, zero, suc, List, [], ◌∷◌, ◌++◌, Some, None, Option, ◌≡◌, ◌<◌, ◌≤◌, ◌+◌, ◌∙◌, length, map, take, slice_get, All, replicate, sym, refl, ap, subst, inl, inr, arith}
+use Rattle.std.specs.Prelude.{option_map}
 use Rattle.std.specs.List.{range_with_len}
-use Rattle.std.proofs.lemmas.List.{length-map, replicate_more}
+use Rattle.std.proofs.lemmas.List.{length-map, map-append, replicate_more, take_more}
+use Rattle.std.proofs.lemmas.Option.{get_or_from_slice_get, slice_get_within}
 use Rattle.std.proofs.lemmas.List.FromFn.{length-range_with_len}
 use Rattle.alteration_model.specs.Faults.{pairs_of}
 use Rattle.alteration_model.specs.declared.puts.Put.{Put}
@@ -43,6 +44,27 @@ use Rattle.margin_solve.specs.Certificates.{IsFixedCert, IsMarginCert, split_for
 
 pub one_list_more : (n : ℕ) (lists : List (List ℕ)) → lists ≡ replicate n (1 ∷ []) → lists ++ (1 ∷ []) ∷ [] ≡ replicate (n + 1) (1 ∷ [])
 one_list_more n lists is = rw is (replicate_more n (1 ∷ []))
+
+-- one replacement more
+pub put_more : (changes : List (ℕ × List ℕ)) (i number : ℕ) (ballot copy : List ℕ) (puts : List Put)
+    → option_map (λ (change : ℕ × List ℕ). change.0) (slice_get changes i) ≡ Some number
+    → option_map (λ (change : ℕ × List ℕ). change.1) (slice_get changes i) ≡ Some ballot → copy ≡ ballot
+    → pairs_of puts ≡ take i changes → pairs_of (puts ++ (record { number = number; ballot = copy }) ∷ []) ≡ take (i + 1) changes
+put_more changes i number ballot copy puts number_is ballot_is same is = by (slice_get changes i) refl number_is ballot_is
+  where
+    by : (o : Option (ℕ × List ℕ)) → slice_get changes i ≡ o → option_map (λ (change : ℕ × List ℕ). change.0) o ≡ Some number
+        → option_map (λ (change : ℕ × List ℕ). change.1) o ≡ Some ballot
+        → pairs_of (puts ++ (record { number = number; ballot = copy }) ∷ []) ≡ take (i + 1) changes
+    by None at number_is ballot_is = absurd (cc)
+    by (Some change) at number_is ballot_is =
+        let first : change.0 ≡ number = cc in
+        let second : change.1 ≡ ballot = cc in
+        let within = slice_get_within changes i change at in
+        let here = get_or_from_slice_get changes i change change at in
+        let pair : Put → ℕ × List ℕ = λ put. (put.number, put.ballot) in
+        let one : change ≡ (number, copy) = rw (same, ← first, ← second) refl in
+        rw (take_more changes i change within, here) (map-append pair puts ((record { number = number; ballot = copy }) ∷ []) ∙ ap (λ ps. ps ++ (number, copy) ∷ []) is
+        ∙ ap (λ c. take i changes ++ c ∷ []) (sym one))
 
 -- ---- the outcome
 
@@ -163,5 +185,6 @@ pub pair_body : (p : Poll) (g l k : ℕ) (puts : List Put) → IsPoll p → g < 
     → TurnFits p.c k (Some (Pair g l)) puts
 pair_body p g l k puts poll below_g below_l ok many = (
   (omega (arith, below_g, poll.most), omega (arith, below_l, poll.most)),
-  (many, puts_fit p.c 1 (length p.ballots) puts poll.most poll.few ok),
+  many,
+  puts_fit p.c 1 (length p.ballots) puts poll.most poll.few ok,
 )

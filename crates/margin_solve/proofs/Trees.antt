@@ -1,5 +1,5 @@
 -- A cut for each root goal.
-use Rattle.std.proofs.Common.{ℕ, zero, suc, List, [], ◌∷◌, ◌≡◌, ◌<◌, ◌≤◌, ◌*◌, ◌∙◌, length, map, replicate, ap, sym, refl, subst, absurd, arith}
+use Rattle.std.proofs.Common.{ℕ, zero, suc, List, [], ◌∷◌, ◌≡◌, ◌<◌, ◌≤◌, ◌*◌, ◌∙◌, length, map, replicate, Result, Ok, Err, IfOk, ap, sym, refl, subst, arith}
 use Rattle.std.proofs.Math.Nat.{mul-le-mul_left}
 use Rattle.std.proofs.lemmas.List.{length-map}
 use Rattle.std.specs.Prelude.{◌==◌, not}
@@ -79,6 +79,11 @@ same_each A B b (x ∷ xs) = ap (λ rest. b ∷ rest) (same_each A B b xs)
 pub split_is : (roots : List Goal) → Split (cuts_of (replicate (length roots) (1 ∷ []))) ≡ split_for roots
 split_is roots = ap (λ lists. Split (cuts_of lists)) (sym (same_each Goal (List ℕ) (1 ∷ []) roots))
 
-pub split_shown : (roots : List Goal) (k : ℕ) (tree : Plain) → (k ≡ 0 → ⊥) → tree ≡ Split (cuts_of (replicate (length roots) (1 ∷ []))) → tree ≡ tree_for roots k
-split_shown roots zero tree some is = absurd (some refl)
-split_shown roots (suc k) tree some is = is ∙ split_is roots
+split_shows : (roots : List Goal) (k : ℕ) (tree : Plain) → (k ≡ 0 → ⊥) → tree ≡ Split (cuts_of (replicate (length roots) (1 ∷ []))) → tree ≡ tree_for roots k
+split_shows roots zero tree some is = absurd (some refl)
+split_shows roots (suc k) tree some is = is ∙ split_is roots
+
+pub split_shown : {E : Type 0} (made : Result Plain E) (roots : List Goal) (k n : ℕ) → (k ≡ 0 → ⊥) → n ≡ length roots
+    → IfOk made (λ tree. tree ≡ Split (cuts_of (replicate n (1 ∷ [])))) → IfOk made (λ tree. tree ≡ tree_for roots k)
+split_shown (Ok tree) roots k n some many is = split_shows roots k tree some (is ∙ ap (λ m. Split (cuts_of (replicate m (1 ∷ [])))) many)
+split_shown (Err fault) roots k n some many is = tt
