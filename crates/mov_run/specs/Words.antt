@@ -6,6 +6,7 @@ use Rattle.ballot_form.specs.declared.rule.Rule.{Rule}
 use Rattle.ballot_form.specs.declared.rule.Rule.TheVariants.{Plurality, Borda, Condorcet, Dhondt, Irv}
 use Rattle.ballot_form.specs.declared.rule.RuleName.{RuleName}
 use Rattle.ballot_form.specs.declared.rule.RuleName.TheVariants as named
+use Rattle.margin_check.specs.Verdicts.{IsJudged}
 use Rattle.text_lines.specs.Numbers.{numeral_of}
 use Rattle.text_lines.specs.declared.numbers.Numeral.{Numeral}
 use Rattle.text_lines.specs.declared.numbers.Numeral.TheVariants.{Number}
@@ -50,34 +51,31 @@ abbrev pub tally_with : Result Rule WordFault → List ℕ → Result Job WordFa
 tally_with (Err fault) file = Err fault
 tally_with (Ok rule) file = Ok (Tally rule file)
 
--- a rule, a file, the word for seats, and their number
-abbrev pub seated_with : List ℕ → List ℕ → List ℕ → List ℕ → Result Job WordFault
-seated_with rule file option seats =
-    if bytes_eq option (codes "--seats") then tally_with (rule_with (name_of_text rule) (seats_named seats)) file else Err Line
+-- the rule that a name and the words after the file ask for: none of these, or the seats as two words
+abbrev pub rule_of : Option RuleName → List (List ℕ) → Result Rule WordFault
+rule_of name [] = rule_alone name
+rule_of name (option ∷ seats ∷ []) =
+    if bytes_eq option (codes "--seats") then rule_with name (seats_named seats) else Err Line
+rule_of name words = Err Line
 
--- a rule and a file, and after them nothing, or the seats as two words
-abbrev pub options_of : List ℕ → List ℕ → List (List ℕ) → Result Job WordFault
-options_of rule file [] = tally_with (rule_alone (name_of_text rule)) file
-options_of rule file (option ∷ seats ∷ []) = seated_with rule file option seats
-options_of rule file words = Err Line
-
--- `tally`: a rule, a file, and options
+-- `tally`: a rule, a file, and perhaps seats
 abbrev pub tally_of : List (List ℕ) → Result Job WordFault
-tally_of (rule ∷ file ∷ options) = options_of rule file options
+tally_of (rule ∷ file ∷ options) = tally_with (rule_of (name_of_text rule) options) file
 tally_of words = Err Line
 
--- the rule of this name, if `margin` knows it
-abbrev pub rule_for_margin : Option RuleName → Option Rule
-rule_for_margin (Some named.Plurality) = Some Plurality
-rule_for_margin name = None
+-- the name of a rule, if `margin` knows it
+abbrev pub known_name : Option RuleName → Option RuleName
+known_name (Some named.Irv) = None
+known_name (Some named.Condorcet) = None
+known_name name = name
 
-abbrev pub margin_with : Option Rule → List ℕ → Result Job WordFault
-margin_with None file = Err UnknownRule
-margin_with (Some rule) file = Ok (Margin rule file)
+abbrev pub margin_with : Result Rule WordFault → List ℕ → Result Job WordFault
+margin_with (Err fault) file = Err fault
+margin_with (Ok rule) file = Ok (Margin rule file)
 
--- `margin`: a rule and a file
+-- `margin`: a rule, a file, and perhaps seats
 abbrev pub margin_of : List (List ℕ) → Result Job WordFault
-margin_of (rule ∷ file ∷ []) = margin_with (rule_for_margin (name_of_text rule)) file
+margin_of (rule ∷ file ∷ options) = margin_with (rule_of (known_name (name_of_text rule)) options) file
 margin_of words = Err Line
 
 -- `check`: a ballot file and a certificate file
@@ -108,9 +106,10 @@ IsNoCommand m = IsErrOf m NoCommand ⊎ IsErrOf m UnknownCommand
 abbrev pub Reads : List (List ℕ) → Result Job WordFault → Type 0
 Reads words r = (r ≡ meaning words) ⊎ ((r ≡ Err Memory) × (IsNoCommand (meaning words) → ⊥))
 
--- the rule of a tally has a lawful number of seats
+-- the rule has a lawful number of seats, and certificates of a margin's rule are judged
 abbrev pub IsLawful : Job → Type 0
 IsLawful (Tally rule file) = IsRule rule
+IsLawful (Margin rule file) = IsRule rule × IsJudged rule
 IsLawful job = Unit {0}
 
 -- the ballot file that the job reads

@@ -1,9 +1,9 @@
 // What the words of the command line ask for.
-ghost use Rattle.std.specs.Prelude.{◌≡◌, ◌⊎◌, ◌∷◌, codes, map, string_bytes, Err, IfOk, Ok};
-ghost use Rattle.ballot_form.specs.Rules.{IsRule, name_of_text};
-ghost use Rattle.mov_run.specs.Words.{IsLawful, Reads, margin_with, options_of, rule_for_margin, seated_with};
+ghost use Rattle.std.specs.Prelude.{◌≡◌, ◌∷◌, codes, map, string_bytes, IfOk};
+ghost use Rattle.mov_run.specs.Words as words;
+ghost use Rattle.mov_run.specs.Words.{IsLawful, Reads};
 
-use crate::rules::{rule_alone, rule_with};
+use crate::rules::rule_of;
 use ballot_form::{Rule, RuleName, Text};
 use mov_base::Memory;
 use std::alloc::Global;
@@ -89,84 +89,39 @@ fn tally_job(alloc: Global, words: &[String]) -> Result<Job, WordFault>
     let Some((file, options)) = rest.split_first() else {
         return Err(WordFault::Line);
     };
-    options_job(alloc, rule.as_str(), file.as_str(), options)
-}
-
-/// The job of a rule, a file and the words after these.
-fn options_job(alloc: Global, rule: &str, file: &str, options: &[String]) -> Result<Job, WordFault>
-    ensures reads { (result ≡ options_of rule.now file.now (map string_bytes options.now)) ⊎ (result ≡ Err WordFault.Memory) }
-    ensures lawful { IfOk result IsLawful }
-{
-    let Some((option, rest)) = options.split_first() else {
-        return tally_line(alloc, rule_alone(rule)?, file);
-    };
-    match rest {
-        [seats] => seated_line(alloc, rule, file, option.as_str(), seats.as_str()),
-        _ => Err(WordFault::Line),
-    }
-}
-
-/// The job of a rule, a file and two more words after `tally`.
-fn seated_line(
-    alloc: Global,
-    rule: &str,
-    file: &str,
-    option: &str,
-    seats: &str,
-) -> Result<Job, WordFault>
-    ensures reads { (result ≡ seated_with rule.now file.now option.now seats.now) ⊎ (result ≡ Err WordFault.Memory) }
-    ensures lawful { IfOk result IsLawful }
-{
-    if option != "--seats" {
-        return Err(WordFault::Line);
-    }
-    tally_line(alloc, rule_with(rule, seats)?, file)
-}
-
-/// The job of a rule and a file after `tally`.
-fn tally_line(alloc: Global, rule: Rule, file: &str) -> Result<Job, WordFault>
-    requires { IsRule rule }
-    ensures reads { (result ≡ Ok (Job.Tally rule file.now)) ⊎ (result ≡ Err WordFault.Memory) }
-    ensures lawful { IfOk result IsLawful }
-{
+    let rule = rule_of(RuleName::named(rule.as_bytes()), options)?;
     Ok(Job::Tally {
         rule,
-        file: Text::of(alloc, file)?,
+        file: Text::of(alloc, file.as_str())?,
     })
 }
 
 /// The job of the words after `margin`.
+#[tactic(auto, using(crate::proofs::Known::judged_name))]
 fn margin_job(alloc: Global, words: &[String]) -> Result<Job, WordFault>
     ensures reads { Reads (codes "margin" ∷ map string_bytes words.now) result }
     ensures lawful { IfOk result IsLawful }
 {
-    match words {
-        [rule, file] => margin_line(alloc, rule.as_str(), file.as_str()),
-        _ => Err(WordFault::Line),
-    }
-}
-
-/// The job of a rule and a file after `margin`.
-fn margin_line(alloc: Global, rule: &str, file: &str) -> Result<Job, WordFault>
-    ensures reads { (result ≡ margin_with (rule_for_margin (name_of_text rule.now)) file.now) ⊎ (result ≡ Err WordFault.Memory) }
-    ensures lawful { IfOk result IsLawful }
-{
-    let Some(rule) = known_rule(rule) else {
-        return Err(WordFault::UnknownRule);
+    let Some((rule, rest)) = words.split_first() else {
+        return Err(WordFault::Line);
     };
+    let Some((file, options)) = rest.split_first() else {
+        return Err(WordFault::Line);
+    };
+    let rule = rule_of(known_name(RuleName::named(rule.as_bytes())), options)?;
     Ok(Job::Margin {
         rule,
-        file: Text::of(alloc, file)?,
+        file: Text::of(alloc, file.as_str())?,
     })
 }
 
-/// The rule of this name, if `margin` knows it.
-fn known_rule(name: &str) -> Option<Rule>
-    ensures { result ≡ rule_for_margin (name_of_text name.now) }
+/// The name of a rule, if `margin` knows it.
+fn known_name(name: Option<RuleName>) -> Option<RuleName>
+    ensures { result ≡ words.known_name name }
 {
-    match RuleName::named(name.as_bytes()) {
-        Some(RuleName::Plurality) => Some(Rule::Plurality),
-        _ => None,
+    match name {
+        Some(RuleName::Irv) | Some(RuleName::Condorcet) => None,
+        _ => name,
     }
 }
 

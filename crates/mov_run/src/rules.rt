@@ -1,18 +1,34 @@
 // Rules as the words name them.
-ghost use Rattle.std.specs.Prelude.{◌≡◌, IfOk};
-ghost use Rattle.ballot_form.specs.Rules.{IsRule, name_of_text};
+ghost use Rattle.std.specs.Prelude.{◌≡◌, map, string_bytes, IfOk, Some};
+ghost use Rattle.ballot_form.specs.Rules.{IsRule, name_of_rule};
 ghost use Rattle.mov_run.specs.Words as words;
 
 use crate::jobs::WordFault;
 use ballot_form::{MOST_SEATS, Rule, RuleName};
 use text_lines::{Numeral, read_numeral};
 
-/// The rule of this name, where no seats are named.
-pub(crate) fn rule_alone(name: &str) -> Result<Rule, WordFault>
-    ensures value { result ≡ words.rule_alone (name_of_text name.now) }
+/// The rule of this name with the words after the file: none, or `--seats` and a number.
+pub(crate) fn rule_of(name: Option<RuleName>, options: &[String]) -> Result<Rule, WordFault>
+    ensures value { result ≡ words.rule_of name (map string_bytes options.now) }
     ensures lawful { IfOk result IsRule }
+    ensures named { IfOk result (λ rule. name ≡ Some (name_of_rule rule)) }
 {
-    match RuleName::named(name.as_bytes()) {
+    let Some((option, rest)) = options.split_first() else {
+        return rule_alone(name);
+    };
+    match rest {
+        [seats] if option.as_str() == "--seats" => rule_with(name, seats.as_str()),
+        _ => Err(WordFault::Line),
+    }
+}
+
+/// The rule of this name, where no seats are named.
+fn rule_alone(name: Option<RuleName>) -> Result<Rule, WordFault>
+    ensures value { result ≡ words.rule_alone name }
+    ensures lawful { IfOk result IsRule }
+    ensures named { IfOk result (λ rule. name ≡ Some (name_of_rule rule)) }
+{
+    match name {
         Some(RuleName::Plurality) => Ok(Rule::Plurality),
         Some(RuleName::Borda) => Ok(Rule::Borda),
         Some(RuleName::Condorcet) => Ok(Rule::Condorcet),
@@ -23,14 +39,12 @@ pub(crate) fn rule_alone(name: &str) -> Result<Rule, WordFault>
 }
 
 /// The rule of this name with the seats that are named.
-pub(crate) fn rule_with(name: &str, seats: &str) -> Result<Rule, WordFault>
-    ensures value { result ≡ words.rule_with (name_of_text name.now) (words.seats_named seats.now) }
+fn rule_with(name: Option<RuleName>, seats: &str) -> Result<Rule, WordFault>
+    ensures value { result ≡ words.rule_with name (words.seats_named seats.now) }
     ensures lawful { IfOk result IsRule }
+    ensures named { IfOk result (λ rule. name ≡ Some (name_of_rule rule)) }
 {
-    match (
-        RuleName::named(name.as_bytes()),
-        seats_named(seats.as_bytes()),
-    ) {
+    match (name, seats_named(seats.as_bytes())) {
         (None, _) => Err(WordFault::UnknownRule),
         (Some(_), None) => Err(WordFault::BadSeats),
         (Some(RuleName::Dhondt), Some(seats)) => Ok(Rule::Dhondt(seats)),

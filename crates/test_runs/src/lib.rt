@@ -5,6 +5,8 @@
 #[cfg(test)]
 mod checks;
 #[cfg(test)]
+mod margins;
+#[cfg(test)]
 mod runs;
 #[cfg(test)]
 mod tallies;
