@@ -55,7 +55,7 @@ pub record AreCounts (gains counts : List ℕ) : Type 0 where
 
 -- the gains that are counted make up the deficit
 pub record AreEnough (deficit : ℕ) (gains counts : List ℕ) : Type 0 where
-  pub counts : AreCounts gains counts
+  pub counted : AreCounts gains counts
   pub enough : deficit ≤ add_up (λ gain. gain) gains
 
 -- ---- gains under a goal: the root has none
