@@ -1,2 +1,4 @@
 pub mod Thresholds
 pub mod Largest
+pub mod Cheapest
+pub mod Grounds

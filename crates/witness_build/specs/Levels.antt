@@ -1,5 +1,6 @@
 -- How many of the largest gains make up what the gainer of a pair is behind.
-use Rattle.std.specs.Prelude.{◌≡◌, ◌⊎◌, ℕ, ◌+◌, ◌-◌, ◌*◌, ◌<◌, ◌≤◌, ◌==◌, ◌&&◌, nat_lt, nat_le, List, [], ◌∷◌, if◌then◌else◌, length, slice_index}
+use Rattle.std.specs.Prelude.{◌≡◌, ◌⊎◌, ℕ, ◌+◌, ◌-◌, ◌*◌, ◌<◌, ◌≤◌, ◌==◌, ◌&&◌, nat_lt, nat_le, List, [], ◌∷◌, if◌then◌else◌, length, slice_index, ℤ, pos, negsuc}
+use Rattle.std.proofs.Common.{suc}
 use Rattle.mov_base.specs.Sums.{add_up}
 use Rattle.ballot_form.specs.declared.limits.TheConstants.{MOST_BALLOTS}
 use Rattle.goal_rows.specs.Elections.{Election}
@@ -57,6 +58,11 @@ pub record AreCounts (gains counts : List ℕ) : Type 0 where
 pub record AreEnough (deficit : ℕ) (gains counts : List ℕ) : Type 0 where
   pub counted : AreCounts gains counts
   pub enough : deficit ≤ add_up (λ gain. gain) gains
+
+-- how far a sum is below zero
+abbrev pub below_zero : ℤ → ℕ
+below_zero (pos n) = 0
+below_zero (negsuc n) = suc n
 
 -- ---- gains under a goal: the root has none
 

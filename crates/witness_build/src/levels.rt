@@ -3,7 +3,7 @@ ghost use Rattle.std.specs.Prelude.{◌≡◌, ◌<◌, ◌≤◌, ◌+◌, ◌*
 ghost use Rattle.mov_base.specs.Sums.{add_up};
 ghost use Rattle.goal_rows.specs.Elections.{Election};
 ghost use Rattle.goal_rows.specs.Races.{IsGroundIn, IsSomeGround};
-ghost use Rattle.witness_build.specs.Levels.{AreCounts, AreEnough, IsLevel, IsLevelUnder, deficit_under, greatest_under, of_key};
+ghost use Rattle.witness_build.specs.Levels.{AreCounts, AreEnough, IsLevel, IsLevelUnder, below_zero, deficit_under, greatest_under, of_key};
 
 use ballot_form::MOST_BALLOTS;
 use goal_rows::parts::Ground;
@@ -44,9 +44,16 @@ fn behind(start: &Ground) -> u64
     ensures { (e : Election) → IsGroundIn e start.now → result ≡ deficit_under e start.now.goal }
 {
     match start.sums.as_slice().first() {
-        Some(sum) if *sum < 0 => sum.unsigned_abs(),
-        _ => 0,
+        Some(sum) => missing(*sum),
+        None => 0,
     }
+}
+
+/// How far a sum is below zero.
+fn missing(sum: i64) -> u64
+    ensures { result ≡ below_zero sum }
+{
+    if sum < 0 { sum.unsigned_abs() } else { 0 }
 }
 
 /// How many ballots there are of each key below the end.
