@@ -1,8 +1,8 @@
 -- Of the ground of a goal: the greatest gain, what is lacking, and how many ballots have each gain.
-use Rattle.std.proofs.Common.{ℕ, zero, suc, List, [], ◌∷◌, ◌≡◌, ◌<◌, ◌≤◌, ◌+◌, ◌-◌, ◌*◌, ◌∙◌, length, map, sym, ap, refl, subst, arith}
+use Rattle.std.proofs.Common.{ℕ, zero, suc, List, [], ◌∷◌, ◌≡◌, ◌<◌, ◌≤◌, ◌+◌, ◌-◌, ◌*◌, ◌∙◌, length, map, nat_abs, slice_get, Some, FitsSigned, w64, to_z, of_z, sym, ap, refl, subst, arith, rules}
 use Rattle.std.specs.Prelude.{nat_eq, slice_index, ℤ, pos, negsuc, ◌-ℤ◌}
 use Rattle.std.proofs.lemmas.Bool.Decides.{nat_tests}
-use Rattle.std.proofs.lemmas.Int.{ints}
+use Rattle.std.proofs.lemmas.Int.{ints, to_z-of_z}
 use Rattle.std.proofs.lemmas.List.{length-map}
 use Rattle.mov_base.specs.Sums.{add_up, sum_z}
 use Rattle.mov_base.proofs.Signed.{sum_z-difference}
@@ -133,3 +133,15 @@ counted_gains e start counts is size each = record {
   counted = counts_under e start.goal counts is.election is.reached size (λ k lt. each k lt ∙ ap (add_up (of_key k)) is.values.classes);
   enough = enough_under e start.goal;
 }
+
+-- ---- as the code has them
+
+pub lone_size : (lone : ℤ) (top n : ℕ) → lone ≡ pos top → top ≤ 1024 → n ≡ nat_abs (to_z w64 (of_z w64 lone)) → n ≡ top
+lone_size lone top n is few size =
+    let fits : FitsSigned w64 (pos top) = search rules in
+    let same : n ≡ nat_abs (to_z w64 (of_z w64 (pos top))) = size ∙ ap (λ z. nat_abs (to_z w64 (of_z w64 z))) is in
+    simp to_z-of_z at same
+
+pub below_first : (sum : ℤ) (sums : List ℤ) → Some sum ≡ slice_get sums 0 → first_below sums ≡ below_zero sum
+below_first sum [] is = cc
+below_first sum (z ∷ zs) is = let same : z ≡ sum = cc in ap below_zero same

@@ -2,3 +2,4 @@ pub mod Thresholds
 pub mod Largest
 pub mod Cheapest
 pub mod Grounds
+pub mod Tables

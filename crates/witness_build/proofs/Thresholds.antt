@@ -1,8 +1,11 @@
 -- A threshold that falls by one, and the level that it ends at.
-use Rattle.std.proofs.Common.{◌≡◌, ℕ, zero, suc, ◌+◌, ◌-◌, ◌*◌, ◌<◌, ◌≤◌, ◌⊎◌, List, [], ◌∷◌, inl, inr, length, refl, arith}
+use Rattle.std.proofs.Common.{◌≡◌, ℕ, zero, suc, ◌+◌, ◌-◌, ◌*◌, ◌/◌, ◌%◌, ◌<◌, ◌≤◌, ◌⊎◌, ◌∙◌, List, [], ◌∷◌, min, inl, inr, length, refl, ap, subst, arith}
+use Rattle.std.specs.Prelude.{slice_index}
 use Rattle.std.proofs.Math.Nat.{mul-le-mul_left}
 use Rattle.std.proofs.lemmas.Bool.{cases_lt}
 use Rattle.std.proofs.lemmas.Bool.Decides.{nat_tests}
+use Rattle.std.proofs.lemmas.Grind.{div_ceil_times}
+use Rattle.ballot_form.specs.declared.limits.TheConstants.{MOST_BALLOTS}
 use Rattle.mov_base.specs.Sums.{add_up}
 use Rattle.mov_base.proofs.Most.{most-le, most-reached}
 use Rattle.goal_rows.specs.Pairs.{Reaches}
@@ -122,3 +125,48 @@ level_least deficit gains level i is reached = elim (cases_lt i level.count) [
         omega (arith, reached, bound, short, le))
   ]
 ]
+
+-- ---- by the counts of the gains
+
+all_reaching : (θ : ℕ) (gains : List ℕ) → add_up (reaching θ) gains ≤ length gains
+all_reaching θ [] = omega arith
+all_reaching θ (x ∷ xs) =
+    let one : reaching θ x ≤ 1 = grind (arith, nat_tests) in
+    omega (arith, one, all_reaching θ xs)
+
+pub few_counted : (deficit : ℕ) (gains counts : List ℕ) (θ lacking count : ℕ) → AreCounts gains counts → IsSoFar deficit gains θ lacking count → count ≤ MOST_BALLOTS
+few_counted deficit gains counts θ lacking count are is = omega (arith, is.counted, reaching_is θ gains, all_reaching θ gains, are.few)
+
+pub few_at : (deficit : ℕ) (gains counts : List ℕ) (level : Level) → AreCounts gains counts → IsLevel deficit gains level → level.count ≤ MOST_BALLOTS
+few_at deficit gains counts level are is = omega (arith, is.within, all_reaching level.gain gains, are.few)
+
+pub counts_none : (deficit : ℕ) (gains counts : List ℕ) → AreCounts gains counts → IsSoFar deficit gains (length counts - 0) deficit 0
+counts_none deficit gains counts are = let e : length counts - 0 ≡ length counts = omega arith in rw e (so_far_none deficit gains counts are)
+
+pub counts_more : (deficit : ℕ) (gains counts : List ℕ) (key lacking count many same : ℕ) → AreCounts gains counts → key < length counts
+    → same ≡ many → many ≡ slice_index counts key → (length counts - key) * same < lacking
+    → IsSoFar deficit gains (length counts - key) lacking count
+    → IsSoFar deficit gains (length counts - (key + 1)) (lacking - (length counts - key) * same) (count + many)
+counts_more deficit gains counts key lacking count many same are lt same_is many_is less is =
+    let θ = length counts - (key + 1) in
+    let e : length counts - key ≡ suc θ = omega arith in
+    let more = so_far_more deficit gains θ lacking count many (subst (λ n. IsSoFar deficit gains n lacking count) e is)
+    (many_is ∙ are.each key lt ∙ ap (λ n. add_up (equals n) gains) e) (subst (λ n. n * many < lacking) e (subst (λ n. (length counts - key) * n < lacking) same_is less)) in
+    rw (same_is, e) more
+
+pub counts_found : (deficit : ℕ) (gains counts : List ℕ) (key lacking count many same equal : ℕ) → AreCounts gains counts → key < length counts
+    → same ≡ many → many ≡ slice_index counts key → lacking ≤ (length counts - key) * same → equal ≡ lacking / (length counts - key) + min 1 (lacking % (length counts - key))
+    → IsSoFar deficit gains (length counts - key) lacking count
+    → IsLevel deficit gains (record { gain = length counts - key; equal = equal; count = count + equal })
+counts_found deficit gains counts key lacking count many same equal are lt same_is many_is last equal_is is =
+    let bounds = div_ceil_times lacking (length counts - key) (omega arith) in
+    found deficit gains (length counts - key) lacking count many equal is (many_is ∙ are.each key lt)
+    (subst (λ n. lacking ≤ (length counts - key) * n) same_is last)
+    (rw equal_is bounds.0) (rw equal_is bounds.1)
+
+-- what all gains together make up isn't passed
+pub counts_all : (deficit : ℕ) (gains counts : List ℕ) (key lacking count : ℕ) → AreEnough deficit gains counts → length counts ≤ key
+    → IsSoFar deficit gains (length counts - key) lacking count → lacking ≡ 0
+counts_all deficit gains counts key lacking count are past is =
+    let e : length counts - key ≡ 0 = omega arith in
+    none_left deficit gains lacking count (subst (λ n. IsSoFar deficit gains n lacking count) e is) are.enough

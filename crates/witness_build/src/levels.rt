@@ -34,9 +34,10 @@ pub(crate) fn level_of(alloc: Global, start: &Ground) -> Result<Level, Memory>
 pub(crate) fn greatest_gain(start: &Ground) -> u64
     requires { IsSomeGround start.now }
     ensures value { (e : Election) → IsGroundIn e start.now → result ≡ greatest_under e start.now.goal }
+    ensures some { 1024 ≤ result }
     ensures few { result ≤ 2048 }
 {
-    (start.lone + 1024) as u64
+    start.lone.unsigned_abs() + 1024
 }
 
 /// By how much the gainer is behind.
@@ -75,7 +76,8 @@ fn counts_by_key(alloc: Global, classes: &Classes, end: usize) -> Result<Vec<u32
 
 /// The level of gains of which there are so many each, from the greatest gain down to 1.
 fn level_at(counts: &[u32], deficit: u64) -> Level
-    requires some { (gains : List ℕ) × AreEnough deficit gains counts.now }
+    requires gains { (gains : List ℕ) × AreEnough deficit gains counts.now }
+    requires some { 1 ≤ length counts.now }
     requires few { length counts.now ≤ 2048 }
     ensures { (gains : List ℕ) → AreCounts gains counts.now → IsLevel deficit gains result }
 {
