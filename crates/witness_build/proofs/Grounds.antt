@@ -145,3 +145,34 @@ lone_size lone top n is few size =
 pub below_first : (sum : ℤ) (sums : List ℤ) → Some sum ≡ slice_get sums 0 → first_below sums ≡ below_zero sum
 below_first sum [] is = cc
 below_first sum (z ∷ zs) is = let same : z ≡ sum = cc in ap below_zero same
+
+-- ---- one ballot
+
+-- the gain of the ballot at a place, by its key
+pub record IsGained (e : Election) (goal : Goal) (i key greatest : ℕ) : Type 0 where
+  pub below : key ≤ greatest
+  pub within : i < length (gains_under e goal)
+  pub gain : greatest - key ≡ slice_index (gains_under e goal) i
+
+gain_at : (f : List ℕ → ℕ) (ballots : List (List ℕ)) (i : ℕ) (row : List ℕ) → slice_get ballots i ≡ Some row → (i < length (map f ballots)) × (slice_index (map f ballots) i ≡ f row)
+gain_at f [] i row at = absurd (cc)
+gain_at f (ballot ∷ ballots) zero row at = let same : ballot ≡ row = cc in (omega arith, ap f same)
+gain_at f (ballot ∷ ballots) (suc i) row at = let rest = gain_at f ballots i row at in (omega (arith, rest.0), rest.1)
+
+pub gained_at : (e : Election) (goal : Goal) (g l i key greatest : ℕ) (row : List ℕ) → IsElection e → IsReached e goal → goal ≡ Pair g l → slice_get e.poll.ballots i ≡ Some row
+    → key ≡ key_of e goal row → greatest ≡ greatest_under e goal → IsGained e goal i key greatest
+gained_at e Root g l i key greatest row election reached pair at key_is greatest_is = absurd (cc)
+gained_at e (Pair h m) g l i key greatest row election reached pair at key_is greatest_is =
+    let points = points_of e h m election reached in
+    let low = points.low row in
+    let high = points.high row in
+    let here = gain_at (λ ballot. (gainer_points e h m (h ∷ []) + loser_points e h m ballot) - gainer_points e h m ballot) e.poll.ballots i row at in
+    record {
+      below = omega (arith, key_is, greatest_is, high);
+      within = here.0;
+      gain = omega (arith, key_is, greatest_is, low, high, here.1);
+    }
+
+pub length_under : (e : Election) (goal : Goal) (g l : ℕ) → goal ≡ Pair g l → length (gains_under e goal) ≡ length e.poll.ballots
+length_under e Root g l pair = absurd (cc)
+length_under e (Pair h m) g l pair = length-map e.poll.ballots _

@@ -31,26 +31,41 @@ is_level θ gain e = grind (arith, nat_tests)
 no_level : (θ gain : ℕ) → gain < θ → (gain == θ) ≡ false
 no_level θ gain lt = grind (arith, nat_tests)
 
+pub from_greater : (θ equal i gain : ℕ) (gains : List ℕ) → θ < gain → first_from θ equal i (gain ∷ gains) ≡ i ∷ first_from θ equal (i + 1) gains
+from_greater θ equal i gain gains more = let yes = is_greater θ gain more in rw yes refl
+
+pub from_level : (θ equal i gain : ℕ) (gains : List ℕ) → gain ≡ θ → 0 < equal → first_from θ equal i (gain ∷ gains) ≡ i ∷ first_from θ (equal - 1) (i + 1) gains
+from_level θ equal i gain gains e left =
+    let no = no_greater θ gain (omega (arith, e)) in
+    let yes = is_level θ gain e in
+    let some : ltb 0 equal ≡ true = is_greater 0 equal left in
+    rw (no, yes, some) refl
+
+pub from_passed : (θ equal i gain : ℕ) (gains : List ℕ) → gain ≤ θ → (gain ≡ θ → equal ≡ 0) → first_from θ equal i (gain ∷ gains) ≡ first_from θ equal (i + 1) gains
+from_passed θ equal i gain gains le none = elim (cases_lt gain θ) [
+  | inl less ↦
+      let no = no_greater θ gain le in
+      let other = no_level θ gain less in
+      rw (no, other) refl
+  | inr ge ↦
+      let no = no_greater θ gain le in
+      let e : gain ≡ θ = omega (arith, le, ge) in
+      let yes = is_level θ gain e in
+      let zero_left : ltb 0 equal ≡ false = no_greater 0 equal (omega (arith, none e)) in
+      rw (no, yes, zero_left) refl
+]
+
 step_level : (θ equal i gain : ℕ) (gains : List ℕ) → gain ≡ θ → Step θ equal i gain gains (first_from θ equal i (gain ∷ gains))
-step_level θ zero i gain gains e =
-    let no = no_greater θ gain (omega arith) in
-    let yes = is_level θ gain e in
-    passed (omega arith) (λ _. refl) (rw (no, yes) refl)
+step_level θ zero i gain gains e = passed (omega (arith, e)) (λ _. refl) (from_passed θ zero i gain gains (omega (arith, e)) (λ _. refl))
 step_level θ (suc rest) i gain gains e =
-    let no = no_greater θ gain (omega arith) in
-    let yes = is_level θ gain e in
-    let some : ltb 0 (suc rest) ≡ true = is_greater 0 (suc rest) (omega arith) in
     let one : suc rest - 1 ≡ rest = omega arith in
-    level rest e refl (rw (no, yes, some, one) refl)
+    level rest e refl (from_level θ (suc rest) i gain gains e (omega arith) ∙ ap (λ n. i ∷ first_from θ n (i + 1) gains) one)
 
 pub step_of : (θ equal i gain : ℕ) (gains : List ℕ) → Step θ equal i gain gains (first_from θ equal i (gain ∷ gains))
 step_of θ equal i gain gains = elim (cases_lt θ gain) [
-  | inl more ↦ let yes = is_greater θ gain more in greater more (rw yes refl)
+  | inl more ↦ greater more (from_greater θ equal i gain gains more)
   | inr le ↦ elim (cases_lt gain θ) [
-    | inl less ↦
-        let no = no_greater θ gain le in
-        let none = no_level θ gain less in
-        passed le (λ e. absurd (omega (arith, e, less))) (rw (no, none) refl)
+    | inl less ↦ passed le (λ e. absurd (omega (arith, e, less))) (from_passed θ equal i gain gains le (λ e. absurd (omega (arith, e, less))))
     | inr ge ↦ step_level θ equal i gain gains (omega (arith, le, ge))
   ]
 ]

@@ -3,3 +3,4 @@ pub mod Largest
 pub mod Cheapest
 pub mod Grounds
 pub mod Tables
+pub mod Picks
