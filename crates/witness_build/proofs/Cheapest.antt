@@ -5,15 +5,18 @@ use Rattle.std.proofs.lemmas.List.{get_or_default, length-map}
 use Rattle.mov_base.specs.Sums.{add_up}
 use Rattle.ballot_form.specs.Alterations.{IsAlteration, after}
 use Rattle.goal_rows.specs.Elections.{Election}
-use Rattle.goal_rows.specs.Goals.{Holds, IsElection, IsRootOf, gainer_points, loser_points}
+use Rattle.goal_rows.specs.Goals.{Holds, IsElection, IsReached, IsRootOf, gainer_points, loser_points}
 use Rattle.goal_rows.specs.Pairs.{Reaches, puts_of}
+use Rattle.goal_rows.specs.Races.{IsGroundIn}
 use Rattle.goal_rows.specs.declared.goals.Goal.{Goal}
 use Rattle.goal_rows.specs.declared.goals.Goal.TheVariants.{Root, Pair}
+use Rattle.goal_rows.specs.declared.parts.Ground.{Ground}
 use Rattle.goal_rows.proofs.Bounds.{length_reaches}
 use Rattle.goal_rows.proofs.PairPoints.{pair_points}
 use Rattle.goal_rows.proofs.PairTurning.{pair_row}
-use Rattle.witness_build.specs.Levels.{IsLevel, above, first_from, largest}
-use Rattle.witness_build.specs.Witnesses.{IsMetBy, IsPairWitness, IsRootPair, IsStartWitness, pair_deficit, pair_gains}
+use Rattle.goal_rows.proofs.Ways.{reached_pair}
+use Rattle.witness_build.specs.Levels.{IsLevel, IsLevelUnder, above, deficit_under, first_from, gains_under, largest}
+use Rattle.witness_build.specs.Witnesses.{IsMetBy, IsPairWitness, IsRootPair, IsStartWitness, IsWitnessOf, pair_deficit, pair_gains}
 use Rattle.witness_build.specs.declared.levels.Level.{Level}
 use Rattle.witness_build.proofs.Thresholds.{level_least, level_reaches}
 use Rattle.witness_build.proofs.Largest.{Fits, alters, come_first, length-first, moved}
@@ -82,3 +85,29 @@ no_shorter e goal cheapest changes g l election is ok there holds =
     let root : IsRootOf e (Pair g l) = subst (IsRootOf e) there.2 (election.roots.each there.0 (Pair g l) there.1) in
     let pair : IsRootPair e there.0 g l = (there.1, get_or_default e.roots there.0 Root (Pair g l) there.1 ∙ there.2) in
     is.fewest there.0 g l (length changes) pair (reaches_where_held e g l changes election root ok holds)
+
+-- ---- under a ground
+
+-- the replacements are the cheapest of the goal, are as many as its level counts, and meet it
+pub record AreBuilt (e : Election) (goal : Goal) (level : Level) (changes : List (ℕ × List ℕ)) : Type 0 where
+  pub least : IsWitnessOf e goal changes
+  pub size : length changes ≡ level.count
+  pub met : IsMetBy e goal changes
+
+built_under : (e : Election) (goal : Goal) (g l : ℕ) (level : Level) (changes : List (ℕ × List ℕ)) → IsElection e → IsReached e goal → goal ≡ Pair g l
+    → IsLevel (deficit_under e goal) (gains_under e goal) level → changes ≡ puts_of g (first_from level.gain level.equal 1 (gains_under e goal)) → AreBuilt e goal level changes
+built_under e Root g l level changes election reached pair is changes_are = absurd (cc)
+built_under e (Pair h m) g l level changes election reached pair is changes_are =
+    let same : g ≡ h = cc in
+    let both = reached_pair e h m election.roots reached in
+    let own : changes ≡ puts_of h (numbers_at e h m level) = changes_are ∙ ap (λ x. puts_of x (numbers_at e h m level)) same in
+    rw own (record {
+      least = witness_of e h m level both.1 is;
+      size = length-at e h m level is;
+      met = met_of e h m level election both.1 both.0 is;
+    })
+
+pub built : (e : Election) (start : Ground) (g l : ℕ) (level : Level) (changes : List (ℕ × List ℕ)) → IsGroundIn e start → start.goal ≡ Pair g l → IsLevelUnder start level
+    → changes ≡ puts_of g (first_from level.gain level.equal 1 (gains_under e start.goal)) → AreBuilt e start.goal level changes
+built e start g l level changes is pair level_is changes_are =
+    built_under e start.goal g l level changes is.election is.reached pair (level_is e is) changes_are

@@ -4,3 +4,5 @@ pub mod Cheapest
 pub mod Grounds
 pub mod Tables
 pub mod Picks
+pub mod RootPairs
+pub mod Nearby
