@@ -19,8 +19,8 @@ pub fn start_witness(alloc: Global, race: &Race<'_>) -> Result<Option<Witness>, 
     requires own { race.now.roots ≡ root_goals race.now.rule race.now.roll.now.c race.now.reported }
     requires pairs { IsDecidedByPairs race.now.rule race.now.reported }
     ensures none { IfOk result (λ found. (found ≡ None) ↔ (race.now.roll.now.c ≡ 1)) }
-    ensures start { IfOk result (IfSome (λ w. IsStartWitness (election_of race.now) w.goal w.changes)) }
-    ensures met { IfOk result (IfSome (λ w. IsMetBy (election_of race.now) w.goal w.changes)) }
+    ensures start { IfOk result (λ found. IfSome found (λ w. IsStartWitness (election_of race.now) w.goal w.changes)) }
+    ensures met { IfOk result (λ found. IfSome found (λ w. IsMetBy (election_of race.now) w.goal w.changes)) }
 {
     match nearest(alloc, race)? {
         Some(near) => Ok(Some(witness_at(alloc, race, &near.start, near.level)?)),
