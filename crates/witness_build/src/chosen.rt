@@ -2,10 +2,9 @@
 ghost use Rattle.std.specs.Prelude.{◌≡◌, ℕ, IfOk};
 ghost use Rattle.goal_rows.specs.Races.{IsRace, election_of, IsGroundIn};
 ghost use Rattle.goal_rows.specs.declared.goals.Goal.TheVariants.{Pair};
-ghost use Rattle.witness_build.specs.Levels.{IsLevel, first_from};
-ghost use Rattle.witness_build.specs.Witnesses.{pair_deficit, pair_gains};
+ghost use Rattle.witness_build.specs.Levels.{IsLevel, first_from, gains_under};
 
-use crate::levels::Level;
+use crate::levels::{Level, greatest_gain};
 use goal_rows::key;
 use goal_rows::parts::{Ground, Race};
 use mov_base::{List, Memory};
@@ -14,8 +13,8 @@ use std::alloc::Global;
 /// The numbers of ballots, from 1.
 pub(crate) type NumberList = List<u32>;
 
-/// The numbers of all ballots whose gain is above the level's, and of the first ones whose gain is that, ascending. They are found
-/// in one pass over the ballots.
+/// The numbers of all ballots whose gain is above the level's, and of the first ones whose gain is that, ascending. They
+/// are found in one pass over the ballots.
 pub(crate) fn first_numbers(
     alloc: Global,
     race: &Race<'_>,
@@ -24,16 +23,15 @@ pub(crate) fn first_numbers(
 ) -> Result<NumberList, Memory>
     requires race { IsRace race.now }
     requires start { IsGroundIn (election_of race.now) start.now }
-    requires level { (g l : ℕ) → start.now.goal ≡ Pair g l →
-        IsLevel (pair_deficit (election_of race.now) g l) (pair_gains (election_of race.now) g l) level }
-    ensures { IfOk result (λ numbers. (g l : ℕ) → start.now.goal ≡ Pair g l →
-        numbers ≡ first_from level.gain level.equal 1 (pair_gains (election_of race.now) g l)) }
+    requires pair { (g : ℕ) × (l : ℕ) × (start.now.goal ≡ Pair g l) }
+    ensures { IfOk result (λ numbers.
+        numbers ≡ first_from level.gain level.equal 1 (gains_under (election_of race.now) start.now.goal)) }
 {
-    let best = (start.lone + 1024) as u64;
+    let greatest = greatest_gain(start);
     let mut equal = level.equal;
     let mut numbers = Vec::with_capacity(alloc, level.count as usize)?;
     for i in 0..race.roll.len() {
-        let gain = best - key(race, &start.goal, race.roll.row(i));
+        let gain = greatest - key(race, &start.goal, race.roll.row(i));
         if gain > level.gain {
             numbers.push(i + 1)?;
         } else if gain == level.gain && equal > 0 {

@@ -1,12 +1,12 @@
 // The cheapest replacements of a pair.
-ghost use Rattle.std.specs.Prelude.{◌≡◌, ℕ, ◌∷◌, [], IfOk, map};
+ghost use Rattle.std.specs.Prelude.{◌≡◌, ℕ, IfOk, length};
 ghost use Rattle.alteration_model.specs.Faults.{pairs_of};
 ghost use Rattle.goal_rows.specs.Goals.{IsReached};
 ghost use Rattle.goal_rows.specs.Pairs.{puts_of};
 ghost use Rattle.goal_rows.specs.Races.{IsGroundIn, IsRace, election_of};
 ghost use Rattle.goal_rows.specs.declared.goals.Goal.TheVariants.{Pair};
-ghost use Rattle.witness_build.specs.Levels.{IsLevel};
-ghost use Rattle.witness_build.specs.Witnesses.{IsMetBy, IsWitnessOf, pair_deficit, pair_gains};
+ghost use Rattle.witness_build.specs.Levels.{IsLevelUnder};
+ghost use Rattle.witness_build.specs.Witnesses.{IsMetBy, IsWitnessOf};
 
 use crate::chosen::first_numbers;
 use crate::levels::{Level, level_of};
@@ -37,7 +37,7 @@ pub fn pair_witness(alloc: Global, race: &Race<'_>, goal: &Goal) -> Result<Witne
     ensures met { IfOk result (λ witness. IsMetBy (election_of race.now) witness.goal witness.changes) }
 {
     let start = ground(alloc, race, goal)?;
-    let level = level_of(&start);
+    let level = level_of(alloc, &start)?;
     witness_at(alloc, race, &start, level)
 }
 
@@ -51,10 +51,10 @@ pub(crate) fn witness_at(
     requires race { IsRace race.now }
     requires start { IsGroundIn (election_of race.now) start.now }
     requires pair { (g : ℕ) × (l : ℕ) × (start.now.goal ≡ Pair g l) }
-    requires level { (g l : ℕ) → start.now.goal ≡ Pair g l →
-        IsLevel (pair_deficit (election_of race.now) g l) (pair_gains (election_of race.now) g l) level }
+    requires level { IsLevelUnder start.now level }
     ensures goal { IfOk result (λ witness. witness.goal ≡ start.now.goal) }
     ensures least { IfOk result (λ witness. IsWitnessOf (election_of race.now) witness.goal witness.changes) }
+    ensures size { IfOk result (λ witness. length witness.changes ≡ level.count) }
     ensures met { IfOk result (λ witness. IsMetBy (election_of race.now) witness.goal witness.changes) }
 {
     let Goal::Pair(gainer, _) = start.goal else {
@@ -62,10 +62,9 @@ pub(crate) fn witness_at(
     };
     let numbers = first_numbers(alloc, race, start, level)?;
     let puts = puts_for(alloc, gainer, numbers.as_slice())?;
-    Ok(Witness {
-        goal: start.goal.copy()?,
-        changes: Alteration::from_puts(alloc, race.roll, puts.as_slice())?,
-    })
+    let changes = Alteration::from_puts(alloc, race.roll, puts.as_slice())?;
+    let goal = start.goal.copy()?;
+    Ok(Witness { goal, changes })
 }
 
 /// The replacements of these ballots by the one that ranks the gainer alone.
@@ -76,7 +75,7 @@ fn puts_for(alloc: Global, gainer: Cand, numbers: &[u32]) -> Result<Vec<Put>, Me
     for number in numbers {
         puts.push(Put {
             number: *number,
-            ballot: CandList::from_slice(alloc, [gainer].as_slice())?,
+            ballot: CandList::from_slice(alloc, &[gainer])?,
         })?;
     }
     Ok(puts)

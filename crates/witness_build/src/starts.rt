@@ -1,7 +1,8 @@
 // The cheapest replacements of the root's pairs.
-ghost use Rattle.std.specs.Prelude.{◌≡◌, ◌↔◌, None, IfOk, IfSome};
+ghost use Rattle.std.specs.Prelude.{◌≡◌, ◌↔◌, None, IfOk, IfSome, length};
 ghost use Rattle.goal_rows.specs.Goals.{IsDecidedByPairs, root_goals};
 ghost use Rattle.goal_rows.specs.Races.{IsRace, election_of};
+ghost use Rattle.witness_build.specs.Nearest.{IsNearestSoFar, is_closer as closer_than};
 ghost use Rattle.witness_build.specs.Witnesses.{IsMetBy, IsStartWitness};
 
 use crate::levels::{Level, level_of};
@@ -11,15 +12,15 @@ use goal_rows::parts::{Ground, Race};
 use mov_base::Memory;
 use std::alloc::Global;
 
-/// The cheapest replacements of the first root pair that the fewest bring level; none exactly where there is one candidate. The
-/// race has its own roots, and they are pairs.
+/// The cheapest replacements of the first root pair that the fewest bring level; none exactly where there is one candidate.
+/// The race has its own roots, and they are pairs.
 pub fn start_witness(alloc: Global, race: &Race<'_>) -> Result<Option<Witness>, Memory>
     requires race { IsRace race.now }
     requires own { race.now.roots ≡ root_goals race.now.rule race.now.roll.now.c race.now.reported }
     requires pairs { IsDecidedByPairs race.now.rule race.now.reported }
     ensures none { IfOk result (λ found. (found ≡ None) ↔ (race.now.roll.now.c ≡ 1)) }
-    ensures start { IfOk result (IfSome (λ w. IsStartWitness (election_of race.now) w.goal w.changes)) }
-    ensures met { IfOk result (IfSome (λ w. IsMetBy (election_of race.now) w.goal w.changes)) }
+    ensures start { IfOk result (λ found. IfSome found (λ w. IsStartWitness (election_of race.now) w.goal w.changes)) }
+    ensures met { IfOk result (λ found. IfSome found (λ w. IsMetBy (election_of race.now) w.goal w.changes)) }
 {
     match nearest(alloc, race)? {
         Some(near) => Ok(Some(witness_at(alloc, race, &near.start, near.level)?)),
@@ -36,11 +37,13 @@ struct Near {
 
 /// The first root pair that the fewest replacements bring level.
 fn nearest(alloc: Global, race: &Race<'_>) -> Result<Option<Near>, Memory>
+    requires race { IsRace race.now }
+    ensures { IfOk result (IsNearestSoFar (election_of race.now) (length race.now.roots)) }
 {
     let mut near: Option<Near> = None;
     for goal in race.roots.as_slice() {
         let start = ground(alloc, race, goal)?;
-        let level = level_of(&start);
+        let level = level_of(alloc, &start)?;
         if is_closer(level, &near) {
             near = Some(Near { start, level });
         }
@@ -49,7 +52,9 @@ fn nearest(alloc: Global, race: &Race<'_>) -> Result<Option<Near>, Memory>
 }
 
 /// Whether the level takes fewer replacements than what is the nearest so far.
-fn is_closer(level: Level, near: &Option<Near>) -> bool {
+fn is_closer(level: Level, near: &Option<Near>) -> bool
+    ensures { result ≡ closer_than level.count near.now }
+{
     match near {
         Some(near) => level.count < near.level.count,
         None => true,

@@ -1,0 +1,178 @@
+-- Of the ground of a goal: the greatest gain, what is lacking, and how many ballots have each gain.
+use Rattle.std.proofs.Common.{ℕ, zero, suc, List, [], ◌∷◌, ◌≡◌, ◌<◌, ◌≤◌, ◌+◌, ◌-◌, ◌*◌, ◌∙◌, length, map, nat_abs, slice_get, Some, FitsSigned, w64, to_z, of_z, sym, ap, refl, subst, arith, rules}
+use Rattle.std.specs.Prelude.{nat_eq, slice_index, ℤ, pos, negsuc, ◌-ℤ◌}
+use Rattle.std.proofs.lemmas.Bool.Decides.{nat_tests}
+use Rattle.std.proofs.lemmas.Int.{ints, to_z-of_z}
+use Rattle.std.proofs.lemmas.List.{length-map}
+use Rattle.mov_base.specs.Sums.{add_up, sum_z}
+use Rattle.mov_base.proofs.Signed.{sum_z-difference}
+use Rattle.mov_base.proofs.Sums.{add_up-le}
+use Rattle.ballot_form.specs.declared.limits.TheConstants.{MOST_BALLOTS}
+use Rattle.signature_class.specs.Classes.{classes_of}
+use Rattle.signature_class.proofs.Counts.{keys_are_classes, sum-times_one}
+use Rattle.goal_rows.specs.Elections.{Election}
+use Rattle.goal_rows.specs.Goals.{IsElection, IsReached, IsRootOf, gainer_points, loser_points, pair_weight, rows_of}
+use Rattle.goal_rows.specs.Races.{IsGroundIn, key_of, keys_of, lone_weight}
+use Rattle.goal_rows.specs.declared.goals.Goal.{Goal}
+use Rattle.goal_rows.specs.declared.goals.Goal.TheVariants.{Root, Pair}
+use Rattle.goal_rows.specs.declared.parts.Ground.{Ground}
+use Rattle.goal_rows.proofs.PairPoints.{ArePairPoints, pair_points}
+use Rattle.goal_rows.proofs.Ways.{reached_pair}
+use Rattle.witness_build.specs.Levels.{AreCounts, AreEnough, above, below_zero, deficit_under, equals, gains_under, greatest_under, of_key}
+use Rattle.witness_build.specs.Witnesses.{pair_deficit, pair_gains}
+
+-- ---- the greatest gain
+
+-- the weight of the gainer alone, and no gain is greater than 1,024 more
+pub record IsLone (e : Election) (goal : Goal) (lone : ℤ) : Type 0 where
+  pub top : ℕ
+  pub is : lone ≡ pos top
+  pub few : top ≤ 1024
+  pub greatest : greatest_under e goal ≡ top + 1024
+
+points_of : (e : Election) (g l : ℕ) → IsElection e → IsReached e (Pair g l) → ArePairPoints e g l
+points_of e g l election reached = pair_points e g l election (reached_pair e g l election.roots reached).1
+
+lone_under : (e : Election) (goal : Goal) → IsElection e → IsReached e goal → IsLone e goal (lone_weight e goal)
+lone_under e Root election reached = record { top = 0; is = refl; few = omega arith; greatest = refl }
+lone_under e (Pair g l) election reached =
+    let points = points_of e g l election reached in
+    let none = points.none in
+    record { top = gainer_points e g l (g ∷ []); is = omega (arith, ints, none); few = points.top; greatest = refl }
+
+pub lone_of : (e : Election) (start : Ground) → IsGroundIn e start → IsLone e start.goal start.lone
+lone_of e start is = subst (λ z. IsLone e start.goal z) (sym is.values.lone) (lone_under e start.goal is.election is.reached)
+
+-- ---- what is lacking
+
+below_difference : (z : ℤ) (p m : ℕ) → z ≡ pos p -ℤ pos m → below_zero z ≡ m - p
+below_difference (pos n) p m is = omega (arith, ints, is)
+below_difference (negsuc n) p m is = omega (arith, ints, is)
+
+-- how far the first of the sums is below zero
+abbrev pub first_below : List ℤ → ℕ
+first_below [] = 0
+first_below (sum ∷ sums) = below_zero sum
+
+below_under : (e : Election) (goal : Goal) → first_below (map (λ weight. sum_z weight e.poll.ballots) (rows_of e goal)) ≡ deficit_under e goal
+below_under e Root = refl
+below_under e (Pair g l) = below_difference _ _ _ (sum_z-difference (gainer_points e g l) (loser_points e g l) e.poll.ballots)
+
+pub behind_is : (e : Election) (start : Ground) → IsGroundIn e start → first_below start.sums ≡ deficit_under e start.goal
+behind_is e start is = ap first_below is.values.sums ∙ below_under e start.goal
+
+-- ---- how many ballots have each gain
+
+few_under : (e : Election) (goal : Goal) → IsElection e → length (keys_of e goal) ≤ MOST_BALLOTS
+few_under e Root election = omega arith
+few_under e (Pair g l) election = omega (arith, length-map e.poll.ballots (key_of e (Pair g l)), election.poll.few)
+
+pub few_classes : (e : Election) (start : Ground) → IsGroundIn e start → add_up (λ (c : ℕ × ℕ). c.1) start.classes ≤ MOST_BALLOTS
+few_classes e start is =
+    let keys = keys_of e start.goal in
+    let a = (keys_are_classes keys).counted (λ _. 1) in
+    let b = add_up-le (λ (_ : ℕ). 1) 1 keys (λ x. omega arith) in
+    let s = sum-times_one (classes_of nat_eq keys) in
+    let few = few_under e start.goal is.election in
+    rw is.values.classes (omega (arith, a, b, s, few))
+
+same_test : (k n a b : ℕ) → k ≤ n → a + b ≡ n → equals k a ≡ equals (n - k) b
+same_test k n a b le sum = grind (arith, nat_tests)
+
+-- the key of a ballot and its gain make up the greatest gain
+key_and_gain : (p m top : ℕ) → m ≤ 1024 → p ≤ top → ((p + 1024) - m) + ((top + m) - p) ≡ top + 1024
+key_and_gain p m top low high = omega (arith, low, high)
+
+by_gain : (e : Election) (g l k : ℕ) (ballots : List (List ℕ)) → ArePairPoints e g l → k ≤ greatest_under e (Pair g l)
+    → add_up (equals k) (map (key_of e (Pair g l)) ballots)
+    ≡ add_up (equals (greatest_under e (Pair g l) - k)) (map (λ ballot. (gainer_points e g l (g ∷ []) + loser_points e g l ballot) - gainer_points e g l ballot) ballots)
+by_gain e g l k [] points le = refl
+by_gain e g l k (ballot ∷ ballots) points le =
+    let rest = by_gain e g l k ballots points le in
+    let both = key_and_gain (gainer_points e g l ballot) (loser_points e g l ballot) (gainer_points e g l (g ∷ [])) (points.low ballot) (points.high ballot) in
+    let one = same_test k (greatest_under e (Pair g l)) (key_of e (Pair g l) ballot) ((gainer_points e g l (g ∷ []) + loser_points e g l ballot) - gainer_points e g l ballot) le both in
+    omega (arith, one, rest)
+
+none_above : (n x : ℕ) → x ≤ n → above n x ≡ 0
+none_above n x le = grind (arith, nat_tests)
+
+no_greater : (e : Election) (g l : ℕ) (ballots : List (List ℕ)) → ArePairPoints e g l
+    → add_up (above (greatest_under e (Pair g l))) (map (λ ballot. (gainer_points e g l (g ∷ []) + loser_points e g l ballot) - gainer_points e g l ballot) ballots) ≡ 0
+no_greater e g l [] points = refl
+no_greater e g l (ballot ∷ ballots) points =
+    let low = points.low ballot in
+    let one = none_above (greatest_under e (Pair g l)) ((gainer_points e g l (g ∷ []) + loser_points e g l ballot) - gainer_points e g l ballot) (omega (arith, low)) in
+    omega (arith, one, no_greater e g l ballots points)
+
+counts_under : (e : Election) (goal : Goal) (counts : List ℕ) → IsElection e → IsReached e goal → length counts ≡ greatest_under e goal
+    → ((k : ℕ) → k < length counts → slice_index counts k ≡ add_up (of_key k) (classes_of nat_eq (keys_of e goal))) → AreCounts (gains_under e goal) counts
+counts_under e Root counts election reached size each = record { few = omega arith; greatest = refl; each = each }
+counts_under e (Pair g l) counts election reached size each =
+    let points = points_of e g l election reached in
+    record {
+      few = omega (arith, length-map e.poll.ballots (λ ballot. (gainer_points e g l (g ∷ []) + loser_points e g l ballot) - gainer_points e g l ballot), election.poll.few);
+      greatest = rw size (no_greater e g l e.poll.ballots points);
+      each = λ k lt.
+          each k lt ∙ sym ((keys_are_classes (keys_of e (Pair g l))).counted (equals k))
+          ∙ by_gain e g l k e.poll.ballots points (omega (arith, lt, size))
+          ∙ ap (λ n. add_up (equals (n - k)) (pair_gains e g l)) (sym size);
+    }
+
+enough_by : (top : ℕ) (plus minus : List ℕ → ℕ) (ballots : List (List ℕ))
+    → add_up minus ballots ≤ add_up plus ballots + add_up (λ x. x) (map (λ ballot. (top + minus ballot) - plus ballot) ballots)
+enough_by top plus minus [] = omega arith
+enough_by top plus minus (ballot ∷ ballots) = omega (arith, enough_by top plus minus ballots)
+
+enough_under : (e : Election) (goal : Goal) → deficit_under e goal ≤ add_up (λ x. x) (gains_under e goal)
+enough_under e Root = omega arith
+enough_under e (Pair g l) = omega (arith, enough_by (gainer_points e g l (g ∷ [])) (gainer_points e g l) (loser_points e g l) e.poll.ballots)
+
+pub counted_gains : (e : Election) (start : Ground) (counts : List ℕ) → IsGroundIn e start → length counts ≡ greatest_under e start.goal
+    → ((k : ℕ) → k < length counts → slice_index counts k ≡ add_up (of_key k) start.classes) → AreEnough (deficit_under e start.goal) (gains_under e start.goal) counts
+counted_gains e start counts is size each = record {
+  counted = counts_under e start.goal counts is.election is.reached size (λ k lt. each k lt ∙ ap (add_up (of_key k)) is.values.classes);
+  enough = enough_under e start.goal;
+}
+
+-- ---- as the code has them
+
+pub lone_size : (lone : ℤ) (top n : ℕ) → lone ≡ pos top → top ≤ 1024 → n ≡ nat_abs (to_z w64 (of_z w64 lone)) → n ≡ top
+lone_size lone top n is few size =
+    let fits : FitsSigned w64 (pos top) = search rules in
+    let same : n ≡ nat_abs (to_z w64 (of_z w64 (pos top))) = size ∙ ap (λ z. nat_abs (to_z w64 (of_z w64 z))) is in
+    simp to_z-of_z at same
+
+pub below_first : (sum : ℤ) (sums : List ℤ) → Some sum ≡ slice_get sums 0 → first_below sums ≡ below_zero sum
+below_first sum [] is = cc
+below_first sum (z ∷ zs) is = let same : z ≡ sum = cc in ap below_zero same
+
+-- ---- one ballot
+
+-- the gain of the ballot at a place, by its key
+pub record IsGained (e : Election) (goal : Goal) (i key greatest : ℕ) : Type 0 where
+  pub below : key ≤ greatest
+  pub within : i < length (gains_under e goal)
+  pub gain : greatest - key ≡ slice_index (gains_under e goal) i
+
+gain_at : (f : List ℕ → ℕ) (ballots : List (List ℕ)) (i : ℕ) (row : List ℕ) → slice_get ballots i ≡ Some row → (i < length (map f ballots)) × (slice_index (map f ballots) i ≡ f row)
+gain_at f [] i row at = absurd (cc)
+gain_at f (ballot ∷ ballots) zero row at = let same : ballot ≡ row = cc in (omega arith, ap f same)
+gain_at f (ballot ∷ ballots) (suc i) row at = let rest = gain_at f ballots i row at in (omega (arith, rest.0), rest.1)
+
+pub gained_at : (e : Election) (goal : Goal) (g l i key greatest : ℕ) (row : List ℕ) → IsElection e → IsReached e goal → goal ≡ Pair g l → slice_get e.poll.ballots i ≡ Some row
+    → key ≡ key_of e goal row → greatest ≡ greatest_under e goal → IsGained e goal i key greatest
+gained_at e Root g l i key greatest row election reached pair at key_is greatest_is = absurd (cc)
+gained_at e (Pair h m) g l i key greatest row election reached pair at key_is greatest_is =
+    let points = points_of e h m election reached in
+    let low = points.low row in
+    let high = points.high row in
+    let here = gain_at (λ ballot. (gainer_points e h m (h ∷ []) + loser_points e h m ballot) - gainer_points e h m ballot) e.poll.ballots i row at in
+    record {
+      below = omega (arith, key_is, greatest_is, high);
+      within = here.0;
+      gain = omega (arith, key_is, greatest_is, low, high, here.1);
+    }
+
+pub length_under : (e : Election) (goal : Goal) (g l : ℕ) → goal ≡ Pair g l → length (gains_under e goal) ≡ length e.poll.ballots
+length_under e Root g l pair = absurd (cc)
+length_under e (Pair h m) g l pair = length-map e.poll.ballots _
