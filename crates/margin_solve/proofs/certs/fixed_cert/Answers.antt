@@ -11,7 +11,13 @@ pub returns-clause-found : goal.returns-clause-found
 returns-clause-found c =
     let race = c.args.race.now in
     let cert : Cert = record {
-      rule = race.rule; c = c.candidates.result; ballots = c.len.result; reported = c.in_ok-copy.field-0; claim = Fixed; goal = None; puts = c.new.result;
+      rule = race.rule;
+      c = c.candidates.result;
+      ballots = c.len.result;
+      reported = c.in_ok-copy.field-0;
+      claim = Fixed;
+      goal = None;
+      puts = c.new.result;
       tree = c.in_ok-split_tree.field-0;
     } in
     let has : HasHead race cert = record { rule = refl; candidates = c.candidates.ensures.value; ballots = c.len.ensures.value; reported = c.in_ok-copy.ensures } in
@@ -21,7 +27,13 @@ pub returns-clause-printable : goal.returns-clause-printable
 returns-clause-printable c =
     let race = c.args.race.now in
     let cert : Cert = record {
-      rule = race.rule; c = c.candidates.result; ballots = c.len.result; reported = c.in_ok-copy.field-0; claim = Fixed; goal = None; puts = c.new.result;
+      rule = race.rule;
+      c = c.candidates.result;
+      ballots = c.len.result;
+      reported = c.in_ok-copy.field-0;
+      claim = Fixed;
+      goal = None;
+      puts = c.new.result;
       tree = c.in_ok-split_tree.field-0;
     } in
     let has : HasHead race cert = record { rule = refl; candidates = c.candidates.ensures.value; ballots = c.len.ensures.value; reported = c.in_ok-copy.ensures } in

@@ -17,8 +17,14 @@ returns-clause-found c =
     let race = c.args.race.now in
     let witness = c.args.witness.now in
     let cert : Cert = record {
-      rule = race.rule; c = c.candidates.result; ballots = c.len.result; reported = c.in_ok-copy.field-0; claim = Margin c.len-count.result;
-      goal = Some (Pair c.in-Pair.gainer c.in-Pair.loser); puts = c.in_ok-puts_of.field-0; tree = c.in_ok-tree_of.field-0;
+      rule = race.rule;
+      c = c.candidates.result;
+      ballots = c.len.result;
+      reported = c.in_ok-copy.field-0;
+      claim = Margin c.len-count.result;
+      goal = Some (Pair c.in-Pair.gainer c.in-Pair.loser);
+      puts = c.in_ok-puts_of.field-0;
+      tree = c.in_ok-tree_of.field-0;
     } in
     let has : HasHead race cert = record { rule = refl; candidates = c.candidates.ensures.value; ballots = c.len.ensures.value; reported = c.in_ok-copy.ensures } in
     (margin_made race cert c.requires.race c.requires.own c.requires.judged has c.in-Pair.gainer c.in-Pair.loser witness.goal witness.changes
@@ -30,8 +36,14 @@ returns-clause-printable c =
     let race = c.args.race.now in
     let witness = c.args.witness.now in
     let cert : Cert = record {
-      rule = race.rule; c = c.candidates.result; ballots = c.len.result; reported = c.in_ok-copy.field-0; claim = Margin c.len-count.result;
-      goal = Some (Pair c.in-Pair.gainer c.in-Pair.loser); puts = c.in_ok-puts_of.field-0; tree = c.in_ok-tree_of.field-0;
+      rule = race.rule;
+      c = c.candidates.result;
+      ballots = c.len.result;
+      reported = c.in_ok-copy.field-0;
+      claim = Margin c.len-count.result;
+      goal = Some (Pair c.in-Pair.gainer c.in-Pair.loser);
+      puts = c.in_ok-puts_of.field-0;
+      tree = c.in_ok-tree_of.field-0;
     } in
     let has : HasHead race cert = record { rule = refl; candidates = c.candidates.ensures.value; ballots = c.len.ensures.value; reported = c.in_ok-copy.ensures } in
     (margin_made race cert c.requires.race c.requires.own c.requires.judged has c.in-Pair.gainer c.in-Pair.loser witness.goal witness.changes
