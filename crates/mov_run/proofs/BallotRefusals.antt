@@ -2,7 +2,7 @@
 use Rattle.std.proofs.Common.{ℕ, List, ◌≡◌, ◌≤◌, ◌<◌, ◌⊎◌, ◌∙◌, length, refl, sym, ap, subst, inl, inr, arith}
 use Rattle.std.specs.Prelude.{Ok, Err}
 use Rattle.mov_edge.specs.Outside.{Lacks, Rose, Tells}
-use Rattle.ballot_csv.specs.BallotFile.{NamedPoll, read_of}
+use Rattle.ballot_csv.specs.BallotFile.{IsFaulty, NamedPoll, read_of}
 use Rattle.ballot_csv.specs.declared.fault.BallotFault.{BallotFault}
 use Rattle.ballot_csv.specs.declared.limits.TheConstants.{LONGEST_FILE}
 use Rattle.mov_run.specs.Allowed.{Answer, HasNoCert, HasNoContest, IsContestFile, IsUnread}
@@ -87,7 +87,7 @@ at_file : (old new : Outside) (words : List (List ℕ)) (s : Status) (file : Lis
 at_file old new words s file ran named = elim (shape (source_of old new) (meaning words) ran.answer ran.allowed) [
   | inl f ↦ absurd (no_ballot_file (meaning words) f.0 file f.1 named)
   | inr rest ↦ elim rest [
-    | inl none ↦ inl (memory_of old new s ran.answer none.0 ran.delivered)
+    | inl none ↦ inl (memory_of old new s ran.answer none.0.0 ran.delivered)
     | inr job ↦ at_shape old new words s file ran.answer ran.delivered named job.2
   ]
 ]
@@ -96,35 +96,35 @@ pub ends_with : (old new : Outside) (s : Status) (t wanted : Stop) (ends : Statu
 ends_with old new s t wanted ends is stopped same there =
     inl (is ∙ ap status_of same ∙ there, subst (λ v. SaysLine old new (line_of v)) same stopped.line)
 
-faulty_file : (old new : Outside) (words : List (List ℕ)) (s : Status) (file bytes : List ℕ) (fault : BallotFault) → AtFile old new words s file → Tells old.told file bytes → (Rose old.faults new.faults → ⊥)
-    → length bytes ≤ LONGEST_FILE → read_of bytes ≡ Err fault → EndsWith old new s Ballots (line_of (stop.Ballots fault))
-faulty_file old new words s file bytes fault (inl memory) tells quiet short read = inr memory
-faulty_file old new words s file bytes fault (inr (inr good)) tells quiet short read =
+faulty_file : (old new : Outside) (words : List (List ℕ)) (s : Status) (file bytes : List ℕ) (fault : BallotFault) → AtFile old new words s file → Tells old.files.told file bytes → (Rose old.files.faults new.files.faults → ⊥)
+    → IsFaulty bytes fault → EndsWith old new s Ballots (line_of (stop.Ballots fault))
+faulty_file old new words s file bytes fault (inl memory) tells quiet faulty_is = inr memory
+faulty_file old new words s file bytes fault (inr (inr good)) tells quiet faulty_is =
     let same : good.1.bytes ≡ bytes = good.1.file.told bytes tells in
-    absurd (ok_or_err (read_of bytes) good.0 fault (ap read_of (sym same) ∙ good.1.read) read)
-faulty_file old new words s file bytes fault (inr (inl stopped)) tells quiet short read = by stopped.0 stopped.1 stopped.2 stopped.3
+    absurd (ok_or_err (read_of bytes) good.0 fault (ap read_of (sym same) ∙ good.1.accepted.1) faulty_is.1)
+faulty_file old new words s file bytes fault (inr (inl stopped)) tells quiet faulty_is = by stopped.0 stopped.1 stopped.2 stopped.3
   where
     by : (t : Stop) → s ≡ status_of t → Stopped old new t → HasNoContest (source_of old new) file t → EndsWith old new s Ballots (line_of (stop.Ballots fault))
-    by t is left (inl unread) = absurd (elim unread.1.why [ inl rose ↦ quiet rose | inr lacks ↦ not_both old.told file bytes tells lacks ])
-    by t is left (inr (inl long)) = absurd (let lt = long.1.told bytes tells in omega arith)
+    by t is left (inl unread) = absurd (elim unread.1.why [ inl rose ↦ quiet rose | inr lacks ↦ not_both old.files.told file bytes tells lacks ])
+    by t is left (inr (inl long)) = absurd (let lt = long.1.told bytes tells in let le = faulty_is.0 in omega arith)
     by t is left (inr (inr faulty)) =
-        let same : faulty.2.bytes ≡ bytes = faulty.2.file.told bytes tells in
-        let one : faulty.0 ≡ fault = err_is (read_of bytes) faulty.0 fault (ap read_of (sym same) ∙ faulty.2.read) read in
+        let same : faulty.2.bytes ≡ bytes = faulty.2.read.file.told bytes tells in
+        let one : faulty.0 ≡ fault = err_is (read_of bytes) faulty.0 fault (ap read_of (sym same) ∙ faulty.2.faulty.1) faulty_is.1 in
         ends_with old new s t (stop.Ballots fault) Ballots is left (faulty.1 ∙ ap stop.Ballots one) refl
 
-long_file : (old new : Outside) (words : List (List ℕ)) (s : Status) (file bytes : List ℕ) → AtFile old new words s file → Tells old.told file bytes → (Rose old.faults new.faults → ⊥)
+long_file : (old new : Outside) (words : List (List ℕ)) (s : Status) (file bytes : List ℕ) → AtFile old new words s file → Tells old.files.told file bytes → (Rose old.files.faults new.files.faults → ⊥)
     → LONGEST_FILE < length bytes → EndsWith old new s Ballots (line_of stop.Long)
 long_file old new words s file bytes (inl memory) tells quiet more = inr memory
 long_file old new words s file bytes (inr (inr good)) tells quiet more =
-    absurd (let same : good.1.bytes ≡ bytes = good.1.file.told bytes tells in let le : length bytes ≤ LONGEST_FILE = rw (← same) good.1.file.within in omega arith)
+    absurd (let same : good.1.bytes ≡ bytes = good.1.file.told bytes tells in let le : length bytes ≤ LONGEST_FILE = rw (← same) good.1.accepted.0 in omega arith)
 long_file old new words s file bytes (inr (inl stopped)) tells quiet more = by stopped.0 stopped.1 stopped.2 stopped.3
   where
     by : (t : Stop) → s ≡ status_of t → Stopped old new t → HasNoContest (source_of old new) file t → EndsWith old new s Ballots (line_of stop.Long)
-    by t is left (inl unread) = absurd (elim unread.1.why [ inl rose ↦ quiet rose | inr lacks ↦ not_both old.told file bytes tells lacks ])
+    by t is left (inl unread) = absurd (elim unread.1.why [ inl rose ↦ quiet rose | inr lacks ↦ not_both old.files.told file bytes tells lacks ])
     by t is left (inr (inl long)) = ends_with old new s t stop.Long Ballots is left long.0 refl
-    by t is left (inr (inr faulty)) = absurd (let same : faulty.2.bytes ≡ bytes = faulty.2.file.told bytes tells in let le : length bytes ≤ LONGEST_FILE = rw (← same) faulty.2.file.within in omega arith)
+    by t is left (inr (inr faulty)) = absurd (let same : faulty.2.bytes ≡ bytes = faulty.2.read.file.told bytes tells in let le : length bytes ≤ LONGEST_FILE = rw (← same) faulty.2.faulty.0 in omega arith)
 
-absent_file : (old new : Outside) (words : List (List ℕ)) (s : Status) (file : List ℕ) → AtFile old new words s file → Lacks old.told file → EndsWith old new s Read (line_of (stop.Read file))
+absent_file : (old new : Outside) (words : List (List ℕ)) (s : Status) (file : List ℕ) → AtFile old new words s file → Lacks old.files.told file → EndsWith old new s Read (line_of (stop.Read file))
 absent_file old new words s file (inl memory) lacks = inr memory
 absent_file old new words s file (inr (inr good)) lacks = absurd (good.1.file.there lacks)
 absent_file old new words s file (inr (inl stopped)) lacks = by stopped.0 stopped.1 stopped.2 stopped.3
@@ -132,10 +132,10 @@ absent_file old new words s file (inr (inl stopped)) lacks = by stopped.0 stoppe
     by : (t : Stop) → s ≡ status_of t → Stopped old new t → HasNoContest (source_of old new) file t → EndsWith old new s Read (line_of (stop.Read file))
     by t is left (inl unread) = ends_with old new s t (stop.Read file) Read is left unread.0 refl
     by t is left (inr (inl long)) = absurd (long.1.there lacks)
-    by t is left (inr (inr faulty)) = absurd (faulty.2.file.there lacks)
+    by t is left (inr (inr faulty)) = absurd (faulty.2.read.file.there lacks)
 
 -- after an accepted file a run ends neither with its fault nor with a file unread, unless the certificate file is absent
-accepted_end : (old new : Outside) (words : List (List ℕ)) (s : Status) → (Rose old.faults new.faults → ⊥) → Ended old new words s → (s ≡ Ballots → ⊥) × (s ≡ Read → LacksCert old words)
+accepted_end : (old new : Outside) (words : List (List ℕ)) (s : Status) → (Rose old.files.faults new.files.faults → ⊥) → Ended old new words s → (s ≡ Ballots → ⊥) × (s ≡ Read → LacksCert old words)
 accepted_end old new words s quiet (inl done) = (λ e. absurd (cc), λ e. absurd (cc))
 accepted_end old new words s quiet (inr (inl refused)) = (λ e. absurd (cc), λ e. absurd (cc))
 accepted_end old new words s quiet (inr (inr (inl cut))) = (λ e. absurd (cc), λ e. absurd (cc))
@@ -144,7 +144,7 @@ accepted_end old new words s quiet (inr (inr (inr (inr unread)))) =
     let at = unread.1 in
     (λ e. absurd (let is = unread.0 in cc), λ e. (at.0, at.1, at.2, elim at.3.why [ inl rose ↦ absurd (quiet rose) | inr lacks ↦ lacks ]))
 
-accepted_file : (old new : Outside) (words : List (List ℕ)) (s : Status) (file : List ℕ) (k : NamedPoll) → AtFile old new words s file → IsToldContest old file k → (Rose old.faults new.faults → ⊥)
+accepted_file : (old new : Outside) (words : List (List ℕ)) (s : Status) (file : List ℕ) (k : NamedPoll) → AtFile old new words s file → IsToldContest old file k → (Rose old.files.faults new.files.faults → ⊥)
     → (s ≡ Ballots → ⊥) × (s ≡ Read → LacksCert old words)
 accepted_file old new words s file k (inl memory) told quiet = (λ e. absurd (cc), λ e. absurd (cc))
 accepted_file old new words s file k (inr (inl stopped)) told quiet = absurd (no_stop old new file k stopped.0 told quiet stopped.3)
@@ -152,7 +152,7 @@ accepted_file old new words s file k (inr (inr good)) told quiet = accepted_end 
 
 pub refuses : (old new : Outside) (words : List (List ℕ)) (s : Status) → Ran old new words s → RefusesBallots old new words s
 refuses old new words s ran = record {
-  faulty = λ file bytes fault named tells quiet short read. faulty_file old new words s file bytes fault (at_file old new words s file ran named) tells quiet short read;
+  faulty = λ file bytes fault named tells quiet is. faulty_file old new words s file bytes fault (at_file old new words s file ran named) tells quiet is;
   long = λ file bytes named tells quiet more. long_file old new words s file bytes (at_file old new words s file ran named) tells quiet more;
   absent = λ file named lacks quiet. absent_file old new words s file (at_file old new words s file ran named) lacks;
   accepted = λ file k named told quiet. accepted_file old new words s file k (at_file old new words s file ran named) told quiet;

@@ -25,7 +25,7 @@ use Rattle.mov_run.specs.declared.stops.Stop.{Stop}
 use Rattle.mov_run.specs.declared.stops.Stop.TheVariants as stop
 use Rattle.mov_run.proofs.BallotRefusals.{ends_with}
 use Rattle.mov_run.proofs.Delivered.{Goes, delivered_err, delivered_ok, done_by, memory_of, refused_by}
-use Rattle.mov_run.proofs.Told.{contest_answer, err_is, no_cert_stop, not_both, ok_or_err, same_cert}
+use Rattle.mov_run.proofs.Told.{both_answer, err_is, no_cert_stop, not_both, ok_or_err, same_cert}
 
 -- the output of a verdict
 abbrev output_of : Cert → Verdict → Output
@@ -40,10 +40,10 @@ AtCheck old new s name k =
 
 at_check : (old new : Outside) (words : List (List ℕ)) (s : Status) (name : List ℕ) (k : NamedPoll) → Ran old new words s → ChecksOver old new words name k → AtCheck old new s name k
 at_check old new words s name k ran over = elim ran.allowed [
-  | inr m ↦ inl (memory_of old new s ran.answer m.0 ran.delivered)
+  | inr m ↦ inl (memory_of old new s ran.answer m.0.0 ran.delivered)
   | inl by ↦
       let answers : Answers (source_of old new) (Check over.file name) ran.answer = rw over.job at by in
-      elim (contest_answer old new over.file k (λ k a. OverCert (source_of old new) name (λ cert a. IsChecked k cert a) a) ran.answer over.contest over.reads answers) [
+      elim (both_answer old new over.file name k IsChecked ran.answer over.contest over.reads answers) [
         | inl stopped ↦
             let d = delivered_err old new s ran.answer stopped.0 stopped.1 ran.delivered in
             inr (inl (stopped.0, d.0, d.1, stopped.2))
@@ -105,43 +105,43 @@ is_refused old new s name k cert reason line at told untroubled refusal =
 
 -- ---- a text that is no certificate
 
-faulty_cert : (old new : Outside) (s : Status) (name bytes : List ℕ) (k : NamedPoll) (fault : CertFault) → AtCheck old new s name k → (Rose old.faults new.faults → ⊥) → Tells old.told name bytes
+faulty_cert : (old new : Outside) (s : Status) (name bytes : List ℕ) (k : NamedPoll) (fault : CertFault) → AtCheck old new s name k → (Rose old.files.faults new.files.faults → ⊥) → Tells old.files.told name bytes
     → length bytes ≤ LONGEST_TEXT → cert_at bytes ≡ Err fault → EndsWith old new s Certificate (line_of (stop.Certificate fault))
 faulty_cert old new s name bytes k fault (inl memory) quiet tells short read = inr memory
 faulty_cert old new s name bytes k fault (inr (inr good)) quiet tells short read =
-    let same : good.1.bytes ≡ bytes = good.1.file.told bytes tells in
-    absurd (ok_or_err (cert_at bytes) good.0 fault (ap cert_at (sym same) ∙ good.1.read) read)
+    let same : good.1.bytes ≡ bytes = good.1.read.file.told bytes tells in
+    absurd (ok_or_err (cert_at bytes) good.0 fault (ap cert_at (sym same) ∙ good.1.said) read)
 faulty_cert old new s name bytes k fault (inr (inl stopped)) quiet tells short read = by stopped.0 stopped.1 stopped.2 stopped.3
   where
     by : (t : Stop) → s ≡ status_of t → Stopped old new t → HasNoCert (source_of old new) name t → EndsWith old new s Certificate (line_of (stop.Certificate fault))
-    by t is left (inl unread) = absurd (elim unread.1.why [ inl rose ↦ quiet rose | inr lacks ↦ not_both old.told name bytes tells lacks ])
+    by t is left (inl unread) = absurd (elim unread.1.why [ inl rose ↦ quiet rose | inr lacks ↦ not_both old.files.told name bytes tells lacks ])
     by t is left (inr (inl long)) = absurd (let lt = long.1.told bytes tells in omega arith)
     by t is left (inr (inr faulty)) =
-        let same : faulty.2.bytes ≡ bytes = faulty.2.file.told bytes tells in
-        let one : faulty.0 ≡ fault = err_is (cert_at bytes) faulty.0 fault (ap cert_at (sym same) ∙ faulty.2.read) read in
+        let same : faulty.2.bytes ≡ bytes = faulty.2.read.file.told bytes tells in
+        let one : faulty.0 ≡ fault = err_is (cert_at bytes) faulty.0 fault (ap cert_at (sym same) ∙ faulty.2.said) read in
         ends_with old new s t (stop.Certificate fault) Certificate is left (faulty.1 ∙ ap stop.Certificate one) refl
 
-long_cert : (old new : Outside) (s : Status) (name bytes : List ℕ) (k : NamedPoll) → AtCheck old new s name k → (Rose old.faults new.faults → ⊥) → Tells old.told name bytes
+long_cert : (old new : Outside) (s : Status) (name bytes : List ℕ) (k : NamedPoll) → AtCheck old new s name k → (Rose old.files.faults new.files.faults → ⊥) → Tells old.files.told name bytes
     → LONGEST_TEXT < length bytes → EndsWith old new s Certificate (line_of stop.LongCertificate)
 long_cert old new s name bytes k (inl memory) quiet tells more = inr memory
 long_cert old new s name bytes k (inr (inr good)) quiet tells more =
-    absurd (let same : good.1.bytes ≡ bytes = good.1.file.told bytes tells in let le : length bytes ≤ LONGEST_TEXT = rw (← same) good.1.file.within in omega arith)
+    absurd (let same : good.1.bytes ≡ bytes = good.1.read.file.told bytes tells in let le : length bytes ≤ LONGEST_TEXT = rw (← same) good.1.short in omega arith)
 long_cert old new s name bytes k (inr (inl stopped)) quiet tells more = by stopped.0 stopped.1 stopped.2 stopped.3
   where
     by : (t : Stop) → s ≡ status_of t → Stopped old new t → HasNoCert (source_of old new) name t → EndsWith old new s Certificate (line_of stop.LongCertificate)
-    by t is left (inl unread) = absurd (elim unread.1.why [ inl rose ↦ quiet rose | inr lacks ↦ not_both old.told name bytes tells lacks ])
+    by t is left (inl unread) = absurd (elim unread.1.why [ inl rose ↦ quiet rose | inr lacks ↦ not_both old.files.told name bytes tells lacks ])
     by t is left (inr (inl long)) = ends_with old new s t stop.LongCertificate Certificate is left long.0 refl
-    by t is left (inr (inr faulty)) = absurd (let same : faulty.2.bytes ≡ bytes = faulty.2.file.told bytes tells in let le : length bytes ≤ LONGEST_TEXT = rw (← same) faulty.2.file.within in omega arith)
+    by t is left (inr (inr faulty)) = absurd (let same : faulty.2.bytes ≡ bytes = faulty.2.read.file.told bytes tells in let le : length bytes ≤ LONGEST_TEXT = rw (← same) faulty.2.short in omega arith)
 
-absent_cert : (old new : Outside) (s : Status) (name : List ℕ) (k : NamedPoll) → AtCheck old new s name k → Lacks old.told name → EndsWith old new s Read (line_of (stop.Read name))
+absent_cert : (old new : Outside) (s : Status) (name : List ℕ) (k : NamedPoll) → AtCheck old new s name k → Lacks old.files.told name → EndsWith old new s Read (line_of (stop.Read name))
 absent_cert old new s name k (inl memory) lacks = inr memory
-absent_cert old new s name k (inr (inr good)) lacks = absurd (good.1.file.there lacks)
+absent_cert old new s name k (inr (inr good)) lacks = absurd (good.1.read.file.there lacks)
 absent_cert old new s name k (inr (inl stopped)) lacks = by stopped.0 stopped.1 stopped.2 stopped.3
   where
     by : (t : Stop) → s ≡ status_of t → Stopped old new t → HasNoCert (source_of old new) name t → EndsWith old new s Read (line_of (stop.Read name))
     by t is left (inl unread) = ends_with old new s t (stop.Read name) Read is left unread.0 refl
     by t is left (inr (inl long)) = absurd (long.1.there lacks)
-    by t is left (inr (inr faulty)) = absurd (faulty.2.file.there lacks)
+    by t is left (inr (inr faulty)) = absurd (faulty.2.read.file.there lacks)
 
 -- ---- a text that is one
 
@@ -150,7 +150,7 @@ verdict_end old new s cert Valid (inl w) = (λ e. absurd (let is = w.0 in cc), �
 verdict_end old new s cert (No reason line) (inl w) = (λ e. absurd (let is = w.0 in cc), λ e. absurd (let is = w.0 in cc))
 verdict_end old new s cert v (inr c) = (λ e. absurd (let is = c.0 in cc), λ e. absurd (let is = c.0 in cc))
 
-accepted_cert : (old new : Outside) (s : Status) (name : List ℕ) (k : NamedPoll) (cert : Cert) → AtCheck old new s name k → (Rose old.faults new.faults → ⊥) → IsToldCert old name cert
+accepted_cert : (old new : Outside) (s : Status) (name : List ℕ) (k : NamedPoll) (cert : Cert) → AtCheck old new s name k → (Rose old.files.faults new.files.faults → ⊥) → IsToldCert old name cert
     → (s ≡ Certificate → ⊥) × (s ≡ Read → ⊥)
 accepted_cert old new s name k cert (inl memory) quiet told = (λ e. absurd (cc), λ e. absurd (cc))
 accepted_cert old new s name k cert (inr (inl stopped)) quiet told = absurd (no_cert_stop old new name cert stopped.0 told quiet stopped.3)

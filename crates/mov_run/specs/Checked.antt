@@ -11,7 +11,7 @@ use Rattle.margin_check.specs.Validity.{IsValidCert}
 use Rattle.margin_check.specs.Verdicts.{IsJudged, IsRefusal}
 use Rattle.margin_check.specs.declared.verdict.Reason.{Reason}
 use Rattle.cert_text.specs.declared.limits.TheConstants.{LONGEST_TEXT}
-use Rattle.mov_run.specs.Allowed.{IsCertFile, IsContestFile, IsFaultyCert, IsLong, IsUnread}
+use Rattle.mov_run.specs.Allowed.{Began, IsCertFile, IsContestFile, IsFaultyCert, IsLong, IsUnread}
 use Rattle.mov_run.specs.Ends.{EndsWith, IsDone, IsRefused, IsToldContest, IsUntroubled}
 use Rattle.mov_run.specs.Ran.{Outside, SaysLine, line_of, source_of}
 use Rattle.mov_run.specs.Verdicts.{refused_text, valid_text}
@@ -26,12 +26,12 @@ pub record ChecksOver (old new : Outside) (words : List (List ℕ)) (name : List
   pub file : List ℕ
   pub job : meaning words ≡ Ok (Check file name)
   pub contest : IsToldContest old file k
-  pub reads : Rose old.faults new.faults → ⊥
+  pub reads : Rose old.files.faults new.files.faults → ⊥
 
 -- the file is told, and its bytes are the text of this certificate
 pub record IsToldCert (old : Outside) (name : List ℕ) (cert : Cert) : Type 0 where
   pub bytes : List ℕ
-  pub told : Tells old.told name bytes
+  pub told : Tells old.files.told name bytes
   pub short : length bytes ≤ LONGEST_TEXT
   pub text : CertText bytes cert
 
@@ -61,23 +61,24 @@ pub record WritesVerdict (old new : Outside) (words : List (List ℕ)) (s : Stat
   pub refused : (name : List ℕ) (k : NamedPoll) (cert : Cert) → ChecksOver old new words name k → IsToldCert old name cert → IsUntroubled old new s →
       (reason : Reason) (line : ℕ) → IsRefusal k.poll cert reason line → IsRefused old new s (refused_text reason line)
   -- a text that is no certificate is told its first fault
-  pub faulty : (name bytes : List ℕ) (k : NamedPoll) (fault : CertFault) → ChecksOver old new words name k → Tells old.told name bytes → length bytes ≤ LONGEST_TEXT →
+  pub faulty : (name bytes : List ℕ) (k : NamedPoll) (fault : CertFault) → ChecksOver old new words name k → Tells old.files.told name bytes → length bytes ≤ LONGEST_TEXT →
       cert_at bytes ≡ Err fault → EndsWith old new s Certificate (line_of (stop.Certificate fault))
-  pub long : (name bytes : List ℕ) (k : NamedPoll) → ChecksOver old new words name k → Tells old.told name bytes → LONGEST_TEXT < length bytes →
+  pub long : (name bytes : List ℕ) (k : NamedPoll) → ChecksOver old new words name k → Tells old.files.told name bytes → LONGEST_TEXT < length bytes →
       EndsWith old new s Certificate (line_of stop.LongCertificate)
-  pub absent : (name : List ℕ) (k : NamedPoll) → ChecksOver old new words name k → Lacks old.told name → EndsWith old new s Read (line_of (stop.Read name))
+  pub absent : (name : List ℕ) (k : NamedPoll) → ChecksOver old new words name k → Lacks old.files.told name → EndsWith old new s Read (line_of (stop.Read name))
   -- and where it is one, the run ends neither with its fault nor with a file unread
   pub accepted : (name : List ℕ) (k : NamedPoll) (cert : Cert) → ChecksOver old new words name k → IsToldCert old name cert → (s ≡ Certificate → ⊥) × (s ≡ Read → ⊥)
 
 -- the job has a certificate file, and it is known to be absent
 abbrev pub LacksCert : Outside → List (List ℕ) → Type 0
-LacksCert old words = (file : List ℕ) × (name : List ℕ) × (meaning words ≡ Ok (Check file name)) × Lacks old.told name
+LacksCert old words = (file : List ℕ) × (name : List ℕ) × (meaning words ≡ Ok (Check file name)) × Lacks old.files.told name
 
--- a check went on from an accepted ballot file to the certificate file
+-- a check went on from an accepted ballot file to the certificate file, and began each once
 pub record WentOn (old new : Outside) (words : List (List ℕ)) (name : List ℕ) (k : NamedPoll) : Type 0 where
   pub file : List ℕ
   pub job : meaning words ≡ Ok (Check file name)
   pub contest : IsContestFile (source_of old new) file k
+  pub begun : Began (source_of old new) 2
 
 -- why a run ends with the fault of a certificate: a check took more than the limit of its file, or its bytes have this first fault
 abbrev pub CertCause : Outside → Outside → List (List ℕ) → Type 0
@@ -85,11 +86,11 @@ CertCause old new words = (name : List ℕ) × (k : NamedPoll) × WentOn old new
     × ((IsLong (source_of old new) name LONGEST_TEXT × SaysLine old new (line_of stop.LongCertificate))
     ⊎ ((fault : CertFault) × IsFaultyCert (source_of old new) name fault × SaysLine old new (line_of (stop.Certificate fault))))
 
--- why a run ends with a file that can't be read: that file is named, and the reading stopped at no other. It is the ballot file, or
--- the certificate file of a check whose ballot file is accepted
+-- why a run ends with a file that can't be read: that file is named, and the reading stopped at no other. It is the ballot file,
+-- and no other was begun, or the certificate file of a check whose ballot file is accepted
 abbrev pub ReadCause : Outside → Outside → List (List ℕ) → Type 0
 ReadCause old new words = (name : List ℕ) × IsUnread (source_of old new) name × SaysLine old new (line_of (stop.Read name))
-    × (BallotFile (meaning words) name ⊎ ((k : NamedPoll) × WentOn old new words name k))
+    × ((BallotFile (meaning words) name × Began (source_of old new) 1) ⊎ ((k : NamedPoll) × WentOn old new words name k))
 
 -- why a check ends well: it wrote whole that the certificate is valid, and it is, and its claim is true
 abbrev pub ValidCause : Outside → Outside → List (List ℕ) → List ℕ → Type 0

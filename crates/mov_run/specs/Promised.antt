@@ -1,21 +1,21 @@
 -- What a run promises: what it leaves, and what follows from that.
-use Rattle.std.specs.Prelude.{◌≡◌, ◌⊎◌, ◌≤◌, ◌<◌, ℕ, List, codes, length, Ok, Err}
+use Rattle.std.specs.Prelude.{◌≡◌, ◌⊎◌, ◌<◌, ℕ, List, codes, length, Ok, Err}
 use Rattle.mov_edge.specs.Loads.{TookFirst}
 use Rattle.mov_edge.specs.Outside.{Took, Tells, Lacks, Rose}
-use Rattle.ballot_csv.specs.BallotFile.{NamedPoll, read_of}
+use Rattle.ballot_csv.specs.BallotFile.{IsFaulty, NamedPoll}
 use Rattle.ballot_csv.specs.PlainForm.{plain_form}
 use Rattle.ballot_csv.specs.declared.fault.BallotFault.{BallotFault}
 use Rattle.ballot_form.specs.declared.rule.Rule.{Rule}
 use Rattle.ballot_form.specs.declared.rule.Rule.TheVariants.{Plurality}
 use Rattle.ballot_csv.specs.declared.limits.TheConstants.{LONGEST_FILE}
-use Rattle.mov_run.specs.Allowed.{Allowed, IsFaultyFile, IsLong}
+use Rattle.mov_run.specs.Allowed.{Allowed, Began, BeganAtMost, IsFaultyFile, IsLong}
 use Rattle.cert_text.specs.CertText.{CertText}
 use Rattle.margin_solve.specs.Certificates.{IsCertOf}
 use Rattle.mov_run.specs.Checked.{CertCause, ReadCause, RefusalCause, ValidCause, WritesVerdict, LacksCert}
 use Rattle.mov_run.specs.Ends.{EndsWith, IsDone, IsToldContest, IsUntroubled}
 use Rattle.mov_run.specs.Ran.{Outside, Ran, SaysLine, line_of, source_of}
 use Rattle.mov_run.specs.Tally.{IsTally}
-use Rattle.mov_run.specs.Words.{BallotFile, IsNoCommand, meaning}
+use Rattle.mov_run.specs.Words.{BallotFile, IsNoCommand, file_count, meaning}
 use Rattle.cert_text.specs.declared.cert.Cert.{Cert}
 use Rattle.mov_run.specs.declared.jobs.Job.TheVariants.{Tally, Margin, Check, Show}
 use Rattle.mov_run.specs.declared.jobs.WordFault.{WordFault}
@@ -44,13 +44,13 @@ WritesPlain old new words s =
 
 -- a job whose ballot file is told and not accepted ends with what is wrong with the file
 pub record RefusesBallots (old new : Outside) (words : List (List ℕ)) (s : Status) : Type 0 where
-  pub faulty : (file bytes : List ℕ) (fault : BallotFault) → BallotFile (meaning words) file → Tells old.told file bytes → (Rose old.faults new.faults → ⊥) →
-      length bytes ≤ LONGEST_FILE → read_of bytes ≡ Err fault → EndsWith old new s Ballots (line_of (stop.Ballots fault))
-  pub long : (file bytes : List ℕ) → BallotFile (meaning words) file → Tells old.told file bytes → (Rose old.faults new.faults → ⊥) →
+  pub faulty : (file bytes : List ℕ) (fault : BallotFault) → BallotFile (meaning words) file → Tells old.files.told file bytes → (Rose old.files.faults new.files.faults → ⊥) →
+      IsFaulty bytes fault → EndsWith old new s Ballots (line_of (stop.Ballots fault))
+  pub long : (file bytes : List ℕ) → BallotFile (meaning words) file → Tells old.files.told file bytes → (Rose old.files.faults new.files.faults → ⊥) →
       LONGEST_FILE < length bytes → EndsWith old new s Ballots (line_of stop.Long)
-  pub absent : (file : List ℕ) → BallotFile (meaning words) file → Lacks old.told file → (Rose old.faults new.faults → ⊥) →
+  pub absent : (file : List ℕ) → BallotFile (meaning words) file → Lacks old.files.told file → (Rose old.files.faults new.files.faults → ⊥) →
       EndsWith old new s Read (line_of (stop.Read file))
-  pub accepted : (file : List ℕ) (k : NamedPoll) → BallotFile (meaning words) file → IsToldContest old file k → (Rose old.faults new.faults → ⊥) →
+  pub accepted : (file : List ℕ) (k : NamedPoll) → BallotFile (meaning words) file → IsToldContest old file k → (Rose old.files.faults new.files.faults → ⊥) →
       (s ≡ Ballots → ⊥) × (s ≡ Read → LacksCert old words)
 
 -- the statuses of a run that stopped before the writing
@@ -73,7 +73,8 @@ pub record Causes (old new : Outside) (words : List (List ℕ)) (s : Status) : T
   pub words_only : s ≡ Words → (fault : WordFault) × (meaning words ≡ Err fault) × SaysLine old new (line_of (stop.Words fault))
   pub words_come : (fault : WordFault) → meaning words ≡ Err fault → EndsWith old new s Words (line_of (stop.Words fault))
   pub no_command : IsNoCommand (meaning words) → s ≡ Words
-  pub ballots : s ≡ Ballots → (file : List ℕ) × BallotFile (meaning words) file
+  -- the ballot file is then the one file that was begun
+  pub ballots : s ≡ Ballots → (file : List ℕ) × BallotFile (meaning words) file × Began (source_of old new) 1
       × ((IsLong (source_of old new) file LONGEST_FILE × SaysLine old new (line_of stop.Long))
       ⊎ ((fault : BallotFault) × IsFaultyFile (source_of old new) file fault × SaysLine old new (line_of (stop.Ballots fault))))
   pub certificate : s ≡ Certificate → CertCause old new words
@@ -82,8 +83,10 @@ pub record Causes (old new : Outside) (words : List (List ℕ)) (s : Status) : T
       × ((output : Output) × Allowed (source_of old new) words (Ok output) × TookFirst old.out.taken new.out.taken output.text)
       × SaysLine old new (codes "mov: write failed\n")
   pub memory : s ≡ Memory → SaysLine old new (line_of stop.Memory)
+  -- no more files were begun than the words name
+  pub begun : BeganAtMost (source_of old new) (file_count (meaning words))
   pub silent : IsStop s → new.out ≡ old.out
-  pub quiet : IsWritten s → (new.err ≡ old.err) × (new.faults ≡ old.faults) × (new.out.faults ≡ old.out.faults)
+  pub quiet : IsWritten s → (new.err ≡ old.err) × (new.files.faults ≡ old.files.faults) × (new.out.faults ≡ old.out.faults)
   pub done : s ≡ Done → (text : List ℕ) × Allowed (source_of old new) words (Ok (record { ends = Done; text = text })) × Took old.out.taken new.out.taken text
   pub valid : s ≡ Done → (file name : List ℕ) → meaning words ≡ Ok (Check file name) → ValidCause old new words name
   pub refused : s ≡ Refused → RefusalCause old new words

@@ -1,12 +1,12 @@
 -- What one run leaves.
 use Rattle.std.specs.Prelude.{◌≡◌, ◌⊎◌, ℕ, List, ◌++◌, codes, decimal, Option, Result, Ok, Err}
 use Rattle.mov_edge.specs.Loads.{TookFirst}
-use Rattle.mov_edge.specs.Outside.{Named, Place, Took, Rose}
+use Rattle.mov_edge.specs.Outside.{Took, Rose}
 use Rattle.ballot_csv.specs.Faults.{ballot_kind_text}
 use Rattle.ballot_csv.specs.declared.limits.TheConstants.{LONGEST_FILE}
 use Rattle.cert_text.specs.Faults.{cert_kind_text}
 use Rattle.cert_text.specs.declared.limits.TheConstants.{LONGEST_TEXT}
-use Rattle.mov_run.specs.Allowed.{Allowed, Answer, Source}
+use Rattle.mov_run.specs.Allowed.{Allowed, Answer, Shelf, Source}
 use Rattle.mov_run.specs.Words.{meaning}
 use Rattle.mov_run.specs.declared.jobs.WordFault.{WordFault}
 use Rattle.mov_run.specs.declared.jobs.WordFault.TheVariants as word
@@ -66,18 +66,23 @@ abbrev pub WritesAll : {T E : Type 0} → Option (List ℕ) → Option (List ℕ
 WritesAll old new before now (Ok x) piece = Took old new piece × (now ≡ before)
 WritesAll old new before now (Err e) piece = TookFirst old new piece × Rose before now
 
--- a sink at one moment
+-- a sink at one moment: what it took, where that is told, and the count of its faults
 pub record Drain : Type 0 where
   pub taken : Option (List ℕ)
   pub faults : ℕ
 
+-- the same, of a value that has these two
+abbrev pub drain : {S : Type 0} → (S → Option (List ℕ)) → (S → ℕ) → S → Drain
+drain taken faults sink = record { taken = taken sink; faults = faults sink }
+
 -- what is seen of the outside at one moment
 pub record Outside : Type 0 where
-  pub told : Option (List Named)
-  pub at : Option Place
-  pub faults : ℕ
+  pub files : Shelf
   pub out : Drain
   pub err : Drain
+
+abbrev pub outside : Shelf → Drain → Drain → Outside
+outside files out err = record { files = files; out = out; err = err }
 
 -- the line went to the error sink
 abbrev pub SaysLine : Outside → Outside → List ℕ → Type 0
@@ -87,14 +92,14 @@ SaysLine old new line = Says old.err.taken new.err.taken old.err.faults new.err.
 pub record Wrote (old new : Outside) (text : List ℕ) : Type 0 where
   pub whole : Took old.out.taken new.out.taken text
   pub quiet : new.err ≡ old.err
-  pub no_fault : (new.faults ≡ old.faults) × (new.out.faults ≡ old.out.faults)
+  pub no_fault : (new.files.faults ≡ old.files.faults) × (new.out.faults ≡ old.out.faults)
 
 -- a fault came while the text was written
 pub record CutShort (old new : Outside) (text : List ℕ) : Type 0 where
   pub part : TookFirst old.out.taken new.out.taken text
   pub rose : Rose old.out.faults new.out.faults
   pub line : SaysLine old new (codes "mov: write failed\n")
-  pub no_fault : new.faults ≡ old.faults
+  pub no_fault : new.files.faults ≡ old.files.faults
 
 -- the run stopped before the writing
 pub record Stopped (old new : Outside) (stop : Stop) : Type 0 where
@@ -106,17 +111,18 @@ abbrev pub Delivers : Outside → Outside → Answer → Status → Type 0
 Delivers old new (Ok output) s = ((s ≡ output.ends) × Wrote old new output.text) ⊎ ((s ≡ status.Write) × CutShort old new output.text)
 Delivers old new (Err stop) s = (s ≡ status_of stop) × Stopped old new stop
 
+-- the files over a run
 abbrev pub source_of : Outside → Outside → Source
-source_of old new = record { told = old.told; at = new.at; before = old.faults; now = new.faults }
+source_of old new = record { old = old.files; new = new.files }
 
 -- one run: an answer that the words and the files allow, delivered
 pub record Ran (old new : Outside) (words : List (List ℕ)) (s : Status) : Type 0 where
   pub answer : Answer
   pub allowed : Allowed (source_of old new) words answer
   pub delivered : Delivers old new answer s
-  pub told : new.told ≡ old.told
+  pub told : new.files.told ≡ old.files.told
   -- where the words are at fault, no file is touched
-  pub untouched : (fault : WordFault) → meaning words ≡ Err fault → (new.at ≡ old.at) × (new.faults ≡ old.faults)
+  pub untouched : (fault : WordFault) → meaning words ≡ Err fault → new.files ≡ old.files
 
 -- a text was sent, or cut short
 abbrev pub Sent : Output → Drain → Drain → Drain → Drain → Status → Type 0

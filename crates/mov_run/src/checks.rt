@@ -1,6 +1,6 @@
 // The check of a certificate, and the text of its verdict.
 ghost use Rattle.std.specs.Prelude.{◌≡◌, ◌++◌, IfOk, OnOk};
-ghost use Rattle.mov_run.specs.Allowed.{AnswersOrMemory};
+ghost use Rattle.mov_run.specs.Allowed.{AnswersOrMemory, found};
 ghost use Rattle.mov_run.specs.Verdicts.{refused_text, status_after, valid_text, verdict_text as text_of};
 
 use crate::jobs::Job;
@@ -23,7 +23,7 @@ pub(crate) fn check_answer<F: Files>(
     cert: &Text,
     files: &mut F,
 ) -> Result<Output, Stop>
-    ensures answers { AnswersOrMemory (record { told = F.told files.old; at = F.at files.new; before = F.faults files.old; now = F.faults files.new }) (Job.Check file.now cert.now) result }
+    ensures answers { AnswersOrMemory (found F.told F.at F.begun F.faults files.old files.new) (Job.Check file.now cert.now) result }
     ensures told { F.told files.new ≡ F.told files.old }
     ensures kept { IfOk result (λ _. F.faults files.new ≡ F.faults files.old) }
 {

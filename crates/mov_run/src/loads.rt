@@ -2,7 +2,8 @@
 ghost use Rattle.std.specs.Prelude.{◌≡◌, ◌≢◌, ◌⊎◌, IfOk};
 ghost use Rattle.ballot_csv.specs.declared.fault.BallotKind.TheVariants as kind;
 ghost use Rattle.cert_text.specs.declared.fault.CertKind.TheVariants as cert_kind;
-ghost use Rattle.mov_run.specs.Allowed.{Loads, LoadsCert, LoadsContest};
+ghost use Rattle.mov_edge.specs.Outside.{next_count};
+ghost use Rattle.mov_run.specs.Allowed.{Loads, LoadsCert, LoadsContest, found};
 
 use crate::stops::Stop;
 use ballot_csv::{BallotFault, BallotKind, LONGEST_FILE, read_ballots};
@@ -18,8 +19,9 @@ pub(crate) fn load_contest<F: Files>(
     files: &mut F,
     name: &Text,
 ) -> Result<Contest, Stop>
-    ensures loads { LoadsContest (record { told = F.told files.old; at = F.at files.new; before = F.faults files.old; now = F.faults files.new }) name.now result }
+    ensures loads { LoadsContest (found F.told F.at F.begun F.faults files.old files.new) name.now result }
     ensures told { F.told files.new ≡ F.told files.old }
+    ensures begun { F.begun files.new ≡ next_count (F.begun files.old) }
     ensures kept { IfOk result (λ _. F.faults files.new ≡ F.faults files.old) }
 {
     let bytes = load(alloc, files, name, LONGEST_FILE, Stop::Long)?;
@@ -41,8 +43,9 @@ fn ballot_stop(fault: BallotFault) -> Stop
 
 /// Loads the certificate of a file.
 pub(crate) fn load_cert<F: Files>(alloc: Global, files: &mut F, name: &Text) -> Result<Cert, Stop>
-    ensures loads { LoadsCert (record { told = F.told files.old; at = F.at files.new; before = F.faults files.old; now = F.faults files.new }) name.now result }
+    ensures loads { LoadsCert (found F.told F.at F.begun F.faults files.old files.new) name.now result }
     ensures told { F.told files.new ≡ F.told files.old }
+    ensures begun { F.begun files.new ≡ next_count (F.begun files.old) }
     ensures kept { IfOk result (λ _. F.faults files.new ≡ F.faults files.old) }
 {
     let bytes = load(alloc, files, name, LONGEST_TEXT, Stop::LongCertificate)?;
@@ -70,8 +73,9 @@ fn load<F: Files>(
     limit: u64,
     too_long: Stop,
 ) -> Result<List<u8>, Stop>
-    ensures loads { Loads (record { told = F.told files.old; at = F.at files.new; before = F.faults files.old; now = F.faults files.new }) name.now limit too_long result }
+    ensures loads { Loads (found F.told F.at F.begun F.faults files.old files.new) name.now limit too_long result }
     ensures told { F.told files.new ≡ F.told files.old }
+    ensures begun { F.begun files.new ≡ next_count (F.begun files.old) }
     ensures kept { IfOk result (λ _. F.faults files.new ≡ F.faults files.old) }
 {
     match read_whole(alloc, files, name.as_str(), limit) {

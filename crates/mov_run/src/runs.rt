@@ -1,8 +1,8 @@
 // The top call.
 ghost use Rattle.std.specs.Prelude.{◌≡◌, ◌⊎◌, map, string_bytes, IfOk, Err};
 ghost use Rattle.ballot_form.specs.Rules.{IsRule};
-ghost use Rattle.mov_run.specs.Allowed.{Allowed, AnswersOrMemory};
-ghost use Rattle.mov_run.specs.Ran.{Ran, Sent, status_number, status_of};
+ghost use Rattle.mov_run.specs.Allowed.{Allowed, AnswersOrMemory, found, shelf};
+ghost use Rattle.mov_run.specs.Ran.{Ran, Sent, drain, outside, status_number, status_of};
 ghost use Rattle.mov_run.specs.Promised.{Promised};
 ghost use Rattle.mov_run.specs.Words.{meaning};
 ghost use Rattle.mov_run.specs.declared.jobs.WordFault.{WordFault as AFault};
@@ -81,8 +81,8 @@ pub fn run<F: Files, O: Sink, E: Sink>(
     err: &mut E,
 ) -> Status
     ensures { Promised
-        (record { told = F.told files.old; at = F.at files.old; faults = F.faults files.old; out = record { taken = O.taken out.old; faults = O.faults out.old }; err = record { taken = E.taken err.old; faults = E.faults err.old } })
-        (record { told = F.told files.new; at = F.at files.new; faults = F.faults files.new; out = record { taken = O.taken out.new; faults = O.faults out.new }; err = record { taken = E.taken err.new; faults = E.faults err.new } })
+        (outside (shelf F.told F.at F.begun F.faults files.old) (drain O.taken O.faults out.old) (drain E.taken E.faults err.old))
+        (outside (shelf F.told F.at F.begun F.faults files.new) (drain O.taken O.faults out.new) (drain E.taken E.faults err.new))
         (map string_bytes words.now) result }
 {
     work(alloc, words, files, out, err)
@@ -97,8 +97,8 @@ fn work<F: Files, O: Sink, E: Sink>(
     err: &mut E,
 ) -> Status
     ensures { Ran
-        (record { told = F.told files.old; at = F.at files.old; faults = F.faults files.old; out = record { taken = O.taken out.old; faults = O.faults out.old }; err = record { taken = E.taken err.old; faults = E.faults err.old } })
-        (record { told = F.told files.new; at = F.at files.new; faults = F.faults files.new; out = record { taken = O.taken out.new; faults = O.faults out.new }; err = record { taken = E.taken err.new; faults = E.faults err.new } })
+        (outside (shelf F.told F.at F.begun F.faults files.old) (drain O.taken O.faults out.old) (drain E.taken E.faults err.old))
+        (outside (shelf F.told F.at F.begun F.faults files.new) (drain O.taken O.faults out.new) (drain E.taken E.faults err.new))
         (map string_bytes words.now) result }
 {
     match answer(alloc, words, files) {
@@ -125,8 +125,8 @@ fn ending(stop: &Stop) -> Status
 
 /// Writes the text.
 fn deliver<O: Sink, E: Sink>(output: &Output, out: &mut O, err: &mut E) -> Status
-    ensures { Sent output.now (record { taken = O.taken out.old; faults = O.faults out.old }) (record { taken = O.taken out.new; faults = O.faults out.new })
-        (record { taken = E.taken err.old; faults = E.faults err.old }) (record { taken = E.taken err.new; faults = E.faults err.new }) result }
+    ensures { Sent output.now (drain O.taken O.faults out.old) (drain O.taken O.faults out.new)
+        (drain E.taken E.faults err.old) (drain E.taken E.faults err.new) result }
 {
     match write_whole(out, output.text.as_slice()) {
         Ok(()) => output.ends,
@@ -139,8 +139,8 @@ fn deliver<O: Sink, E: Sink>(output: &Output, out: &mut O, err: &mut E) -> Statu
 
 /// The answer to the words.
 fn answer<F: Files>(alloc: Global, words: &[String], files: &mut F) -> Result<Output, Stop>
-    ensures allowed { Allowed (record { told = F.told files.old; at = F.at files.new; before = F.faults files.old; now = F.faults files.new }) (map string_bytes words.now) result }
-    ensures untouched { (fault : AFault) → meaning (map string_bytes words.now) ≡ Err fault → (F.at files.new ≡ F.at files.old) × (F.faults files.new ≡ F.faults files.old) }
+    ensures allowed { Allowed (found F.told F.at F.begun F.faults files.old files.new) (map string_bytes words.now) result }
+    ensures untouched { (fault : AFault) → meaning (map string_bytes words.now) ≡ Err fault → shelf F.told F.at F.begun F.faults files.new ≡ shelf F.told F.at F.begun F.faults files.old }
     ensures told { F.told files.new ≡ F.told files.old }
     ensures kept { IfOk result (λ _. F.faults files.new ≡ F.faults files.old) }
 {
@@ -162,7 +162,7 @@ fn tally_answer<F: Files>(
     files: &mut F,
 ) -> Result<Output, Stop>
     requires { IsRule rule }
-    ensures answers { AnswersOrMemory (record { told = F.told files.old; at = F.at files.new; before = F.faults files.old; now = F.faults files.new }) (Job.Tally rule file.now) result }
+    ensures answers { AnswersOrMemory (found F.told F.at F.begun F.faults files.old files.new) (Job.Tally rule file.now) result }
     ensures told { F.told files.new ≡ F.told files.old }
     ensures kept { IfOk result (λ _. F.faults files.new ≡ F.faults files.old) }
 {
@@ -175,7 +175,7 @@ fn tally_answer<F: Files>(
 
 /// The certificate of the contest in a ballot file.
 fn margin_answer<F: Files>(alloc: Global, file: &Text, files: &mut F) -> Result<Output, Stop>
-    ensures answers { AnswersOrMemory (record { told = F.told files.old; at = F.at files.new; before = F.faults files.old; now = F.faults files.new }) (Job.Margin Rule.Plurality file.now) result }
+    ensures answers { AnswersOrMemory (found F.told F.at F.begun F.faults files.old files.new) (Job.Margin Rule.Plurality file.now) result }
     ensures told { F.told files.new ≡ F.told files.old }
     ensures kept { IfOk result (λ _. F.faults files.new ≡ F.faults files.old) }
 {
@@ -189,7 +189,7 @@ fn margin_answer<F: Files>(alloc: Global, file: &Text, files: &mut F) -> Result<
 
 /// The plain form of a ballot file.
 fn show_answer<F: Files>(alloc: Global, file: &Text, files: &mut F) -> Result<Output, Stop>
-    ensures answers { AnswersOrMemory (record { told = F.told files.old; at = F.at files.new; before = F.faults files.old; now = F.faults files.new }) (Job.Show file.now) result }
+    ensures answers { AnswersOrMemory (found F.told F.at F.begun F.faults files.old files.new) (Job.Show file.now) result }
     ensures told { F.told files.new ≡ F.told files.old }
     ensures kept { IfOk result (λ _. F.faults files.new ≡ F.faults files.old) }
 {
