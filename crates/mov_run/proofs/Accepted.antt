@@ -6,10 +6,12 @@ use Rattle.ballot_csv.specs.BallotFile.{NamedPoll}
 use Rattle.cert_text.specs.declared.cert.Cert.{Cert}
 use Rattle.margin_check.specs.declared.verdict.Verdict.{Verdict}
 use Rattle.margin_check.specs.declared.verdict.Verdict.TheVariants.{Valid, No}
-use Rattle.mov_run.specs.Allowed.{Allowed, Answer, AnswersWords, Began, IsCertFile, IsChecked, IsContestFile, IsVerdict, OverBoth, OverCert}
-use Rattle.mov_run.specs.Checked.{ValidCause}
-use Rattle.mov_run.specs.Ran.{Outside, source_of}
-use Rattle.mov_run.specs.Verdicts.{refused_text, status_after, valid_text, verdict_text}
+use Rattle.mov_run.specs.Jobs.{Allowed, Answer, AnswersWords, IsChecked, IsVerdict, OverBoth, OverCert}
+use Rattle.mov_run.specs.Inputs.{Began, IsCertFile, IsContestFile}
+use Rattle.mov_run.specs.Causes.{ValidCause}
+use Rattle.mov_run.specs.Run.{Outside, source_of}
+use Rattle.mov_run.specs.Verdicts.{refused_text, valid_text, verdict_text}
+use Rattle.mov_run.specs.Status.{status_after}
 use Rattle.mov_run.specs.Words.{meaning}
 use Rattle.mov_run.specs.declared.jobs.Job.TheVariants.{Check}
 use Rattle.mov_run.specs.declared.runs.Output.{Output}

@@ -5,20 +5,21 @@ use Rattle.mov_edge.specs.Loads.{TookFirst}
 use Rattle.mov_edge.specs.Outside.{Rose, Took}
 use Rattle.ballot_csv.specs.declared.fault.BallotFault.{BallotFault}
 use Rattle.ballot_csv.specs.declared.limits.TheConstants.{LONGEST_FILE}
-use Rattle.mov_run.specs.Allowed.{Allowed, Answer, Began, BeganAtMost, HasNoCert, HasNoContest, IsFaultyFile, IsLong}
-use Rattle.mov_run.specs.Checked.{CertCause, ReadCause, RefusalCause, WentOn}
-use Rattle.mov_run.specs.Promised.{Causes, IsStop, IsWritten}
-use Rattle.mov_run.specs.Ran.{CutShort, Delivers, Outside, Ran, SaysLine, Stopped, Wrote, line_of, source_of, status_of}
+use Rattle.mov_run.specs.Jobs.{Allowed, Answer}
+use Rattle.mov_run.specs.Inputs.{Began, BeganAtMost, HasNoCert, HasNoContest, IsFaultyFile, IsLong}
+use Rattle.mov_run.specs.Causes.{CertCause, ReadCause, RefusalCause, WentOn, Causes}
+use Rattle.mov_run.specs.Status.{IsEarlyEnd, IsWritten, status_of}
+use Rattle.mov_run.specs.Run.{CutShort, Delivers, Outside, Ran, SaysLine, EndsEarly, Wrote, source_of, EndsWith}
+use Rattle.mov_run.specs.RunFaults.{line_of}
 use Rattle.mov_run.specs.Verdicts.{refused_text}
 use Rattle.mov_run.specs.Words.{BallotFile, IsNoCommand, file_count, meaning}
 use Rattle.mov_run.specs.declared.jobs.Job.{Job}
-use Rattle.mov_run.specs.Ends.{EndsWith}
 use Rattle.mov_run.specs.declared.jobs.WordFault.{WordFault}
 use Rattle.mov_run.specs.declared.runs.Output.{Output}
 use Rattle.mov_run.specs.declared.runs.Status.{Status}
 use Rattle.mov_run.specs.declared.runs.Status.TheVariants.{Done, Bounds, Refused, Words, Ballots, Certificate, Read, Write, Memory}
-use Rattle.mov_run.specs.declared.stops.Stop.{Stop}
-use Rattle.mov_run.specs.declared.stops.Stop.TheVariants as stop
+use Rattle.mov_run.specs.declared.run_faults.RunFault.{RunFault}
+use Rattle.mov_run.specs.declared.run_faults.RunFault.TheVariants as run_fault
 use Rattle.mov_run.proofs.Delivered.{Goes, delivered_err, delivered_ok}
 use Rattle.mov_run.proofs.Accepted.{valid_cause}
 use Rattle.mov_run.proofs.Shapes.{AtCert, AtRefusal, JobShape, begun_at, not_err, not_none, one_fault, shape}
@@ -31,14 +32,14 @@ Quiet old new = (new.err ≡ old.err) × (new.files.faults ≡ old.files.faults)
 
 -- what there is to say of a run that ends with a status
 abbrev CauseAt : Outside → Outside → List (List ℕ) → Status → Type 0
-CauseAt old new words Words = (new.out ≡ old.out) × ((fault : WordFault) × (meaning words ≡ Err fault) × SaysLine old new (line_of (stop.Words fault)))
+CauseAt old new words Words = (new.out ≡ old.out) × ((fault : WordFault) × (meaning words ≡ Err fault) × SaysLine old new (line_of (run_fault.Words fault)))
 CauseAt old new words Ballots = (new.out ≡ old.out)
     × ((file : List ℕ) × BallotFile (meaning words) file × Began (source_of old new) 1
-    × ((IsLong (source_of old new) file LONGEST_FILE × SaysLine old new (line_of stop.Long))
-    ⊎ ((fault : BallotFault) × IsFaultyFile (source_of old new) file fault × SaysLine old new (line_of (stop.Ballots fault)))))
+    × ((IsLong (source_of old new) file LONGEST_FILE × SaysLine old new (line_of run_fault.Long))
+    ⊎ ((fault : BallotFault) × IsFaultyFile (source_of old new) file fault × SaysLine old new (line_of (run_fault.Ballots fault)))))
 CauseAt old new words Certificate = (new.out ≡ old.out) × CertCause old new words
 CauseAt old new words Read = (new.out ≡ old.out) × ReadCause old new words
-CauseAt old new words Memory = (new.out ≡ old.out) × SaysLine old new (line_of stop.Memory)
+CauseAt old new words Memory = (new.out ≡ old.out) × SaysLine old new (line_of run_fault.Memory)
 CauseAt old new words Write = Rose old.out.faults new.out.faults
     × ((output : Output) × Allowed (source_of old new) words (Ok output) × TookFirst old.out.taken new.out.taken output.text)
     × SaysLine old new (codes "mov: write failed\n")
@@ -47,7 +48,7 @@ CauseAt old new words Done = Quiet old new
 CauseAt old new words Refused = Quiet old new × RefusalCause old new words
 CauseAt old new words Bounds = ⊥
 
-silent_at : (old new : Outside) (words : List (List ℕ)) (s : Status) → IsStop s → CauseAt old new words s → new.out ≡ old.out
+silent_at : (old new : Outside) (words : List (List ℕ)) (s : Status) → IsEarlyEnd s → CauseAt old new words s → new.out ≡ old.out
 silent_at old new words Words e at = at.0
 silent_at old new words Ballots e at = at.0
 silent_at old new words Certificate e at = at.0
@@ -62,7 +63,7 @@ quiet_at old new words Bounds e at = absurd at
 quiet_at old new words s e at = absurd e
 
 -- what is said at one status is said at each
-causes_at : (old new : Outside) (words : List (List ℕ)) (s : Status) → ((fault : WordFault) → meaning words ≡ Err fault → EndsWith old new s Words (line_of (stop.Words fault)))
+causes_at : (old new : Outside) (words : List (List ℕ)) (s : Status) → ((fault : WordFault) → meaning words ≡ Err fault → EndsWith old new s Words (line_of (run_fault.Words fault)))
     → (IsNoCommand (meaning words) → s ≡ Words) → BeganAtMost (source_of old new) (file_count (meaning words)) → CauseAt old new words s → Causes old new words s
 causes_at old new words s come none begun at =
     let to : (t : Status) → s ≡ t → CauseAt old new words t = λ t e. subst (λ v. CauseAt old new words v) e at in
@@ -90,40 +91,40 @@ job_at : (old new : Outside) (words : List (List ℕ)) (s : Status) (job : Job) 
 job_at old new words s job m begun at =
     causes_at old new words s (λ f n. absurd (not_err (meaning words) job f m n)) (λ e. absurd (not_none (meaning words) job m e)) begun at
 
-at_words : (old new : Outside) (words : List (List ℕ)) (f : WordFault) → meaning words ≡ Err f → Began (source_of old new) 0 → Stopped old new (stop.Words f) → Causes old new words Words
+at_words : (old new : Outside) (words : List (List ℕ)) (f : WordFault) → meaning words ≡ Err f → Began (source_of old new) 0 → EndsEarly old new (run_fault.Words f) → Causes old new words Words
 at_words old new words f m begun left =
-    causes_at old new words Words (λ g n. inl (refl, subst (λ v. SaysLine old new (line_of (stop.Words v))) (one_fault (meaning words) f g m n) left.line)) (λ e. refl)
+    causes_at old new words Words (λ g n. inl (refl, subst (λ v. SaysLine old new (line_of (run_fault.Words v))) (one_fault (meaning words) f g m n) left.line)) (λ e. refl)
     (record { count = 0; within = omega arith; begun = begun }) (left.silent, (f, m, left.line))
 
-at_memory : (old new : Outside) (words : List (List ℕ)) → (IsNoCommand (meaning words) → ⊥) → BeganAtMost (source_of old new) (file_count (meaning words)) → Stopped old new stop.Memory
+at_memory : (old new : Outside) (words : List (List ℕ)) → (IsNoCommand (meaning words) → ⊥) → BeganAtMost (source_of old new) (file_count (meaning words)) → EndsEarly old new run_fault.Memory
     → Causes old new words Memory
 at_memory old new words known begun left = causes_at old new words Memory (λ f m. inr refl) (λ e. absurd (known e)) begun (left.silent, left.line)
 
 -- ---- at each shape of an answer
 
-says : (old new : Outside) (t wanted : Stop) → Stopped old new t → t ≡ wanted → SaysLine old new (line_of wanted)
+says : (old new : Outside) (t wanted : RunFault) → EndsEarly old new t → t ≡ wanted → SaysLine old new (line_of wanted)
 says old new t wanted left same = subst (λ v. SaysLine old new (line_of v)) same left.line
 
-ballot_stop : (old new : Outside) (words : List (List ℕ)) (s : Status) (file : List ℕ) (t : Stop) → BallotFile (meaning words) file → s ≡ status_of t → Stopped old new t
+ballots_fault : (old new : Outside) (words : List (List ℕ)) (s : Status) (file : List ℕ) (t : RunFault) → BallotFile (meaning words) file → s ≡ status_of t → EndsEarly old new t
     → HasNoContest (source_of old new) file t → Began (source_of old new) 1 → CauseAt old new words s
-ballot_stop old new words s file t named is left (inl unread) begun =
-    rw (is ∙ ap status_of unread.0) (left.silent, (file, unread.1, says old new t (stop.Read file) left unread.0, inl (named, begun)))
-ballot_stop old new words s file t named is left (inr (inl long)) begun =
-    rw (is ∙ ap status_of long.0) (left.silent, (file, named, begun, inl (long.1, says old new t stop.Long left long.0)))
-ballot_stop old new words s file t named is left (inr (inr faulty)) begun =
-    rw (is ∙ ap status_of faulty.1) (left.silent, (file, named, begun, inr (faulty.0, faulty.2, says old new t (stop.Ballots faulty.0) left faulty.1)))
+ballots_fault old new words s file t named is left (inl unread) begun =
+    rw (is ∙ ap status_of unread.0) (left.silent, (file, unread.1, says old new t (run_fault.Read file) left unread.0, inl (named, begun)))
+ballots_fault old new words s file t named is left (inr (inl long)) begun =
+    rw (is ∙ ap status_of long.0) (left.silent, (file, named, begun, inl (long.1, says old new t run_fault.Long left long.0)))
+ballots_fault old new words s file t named is left (inr (inr faulty)) begun =
+    rw (is ∙ ap status_of faulty.1) (left.silent, (file, named, begun, inr (faulty.0, faulty.2, says old new t (run_fault.Ballots faulty.0) left faulty.1)))
 
 went_on : (old new : Outside) (words : List (List ℕ)) (a : Answer) (at : AtCert (source_of old new) (meaning words) a) → WentOn old new words at.name at.k
 went_on old new words a at = record { file = at.file; job = at.job; contest = at.contest; begun = at.begun }
 
-cert_stop : (old new : Outside) (words : List (List ℕ)) (s : Status) (a : Answer) (at : AtCert (source_of old new) (meaning words) a) → s ≡ status_of at.t
-    → Stopped old new at.t → HasNoCert (source_of old new) at.name at.t → CauseAt old new words s
-cert_stop old new words s a at is left (inl unread) =
-    rw (is ∙ ap status_of unread.0) (left.silent, (at.name, unread.1, says old new at.t (stop.Read at.name) left unread.0, inr (at.k, went_on old new words a at)))
-cert_stop old new words s a at is left (inr (inl long)) =
-    rw (is ∙ ap status_of long.0) (left.silent, (at.name, at.k, went_on old new words a at, inl (long.1, says old new at.t stop.LongCertificate left long.0)))
-cert_stop old new words s a at is left (inr (inr faulty)) =
-    rw (is ∙ ap status_of faulty.1) (left.silent, (at.name, at.k, went_on old new words a at, inr (faulty.0, faulty.2, says old new at.t (stop.Certificate faulty.0) left faulty.1)))
+cert_fault : (old new : Outside) (words : List (List ℕ)) (s : Status) (a : Answer) (at : AtCert (source_of old new) (meaning words) a) → s ≡ status_of at.t
+    → EndsEarly old new at.t → HasNoCert (source_of old new) at.name at.t → CauseAt old new words s
+cert_fault old new words s a at is left (inl unread) =
+    rw (is ∙ ap status_of unread.0) (left.silent, (at.name, unread.1, says old new at.t (run_fault.Read at.name) left unread.0, inr (at.k, went_on old new words a at)))
+cert_fault old new words s a at is left (inr (inl long)) =
+    rw (is ∙ ap status_of long.0) (left.silent, (at.name, at.k, went_on old new words a at, inl (long.1, says old new at.t run_fault.LongCertificate left long.0)))
+cert_fault old new words s a at is left (inr (inr faulty)) =
+    rw (is ∙ ap status_of faulty.1) (left.silent, (at.name, at.k, went_on old new words a at, inr (faulty.0, faulty.2, says old new at.t (run_fault.Certificate faulty.0) left faulty.1)))
 
 allowed_of : (old new : Outside) (words : List (List ℕ)) (a : Answer) (o : Output) → a ≡ Ok o → Allowed (source_of old new) words a → Allowed (source_of old new) words (Ok o)
 allowed_of old new words a o is allowed = subst (λ v. Allowed (source_of old new) words v) is allowed
@@ -152,10 +153,10 @@ job_cause : (old new : Outside) (words : List (List ℕ)) (s : Status) (a : Answ
     → CauseAt old new words s
 job_cause old new words s a allowed d (inl at) =
     let e = delivered_err old new s a at.t at.is d in
-    ballot_stop old new words s at.file at.t at.named e.0 e.1 at.why at.begun
+    ballots_fault old new words s at.file at.t at.named e.0 e.1 at.why at.begun
 job_cause old new words s a allowed d (inr (inl at)) =
     let e = delivered_err old new s a at.t at.is d in
-    cert_stop old new words s a at e.0 e.1 at.why
+    cert_fault old new words s a at e.0 e.1 at.why
 job_cause old new words s a allowed d (inr (inr (inl at))) =
     let o : Output = record { ends = Done; text = at.text } in
     text_made old new words s at.text (allowed_of old new words a o at.is allowed) (delivered_ok old new s a o at.is d)
@@ -165,9 +166,9 @@ job_cause old new words s a allowed d (inr (inr (inr at))) =
 
 pub causes : (old new : Outside) (words : List (List ℕ)) (s : Status) → Ran old new words s → Causes old new words s
 causes old new words s ran = elim (shape (source_of old new) (meaning words) ran.answer ran.allowed) [
-  | inl f ↦ let d = delivered_err old new s ran.answer (stop.Words f.0) f.2 ran.delivered in rw d.0 (at_words old new words f.0 f.1 f.3 d.1)
+  | inl f ↦ let d = delivered_err old new s ran.answer (run_fault.Words f.0) f.2 ran.delivered in rw d.0 (at_words old new words f.0 f.1 f.3 d.1)
   | inr rest ↦ elim rest [
-    | inl none ↦ let d = delivered_err old new s ran.answer stop.Memory none.0.0 ran.delivered in rw d.0 (at_memory old new words none.1 none.0.1 d.1)
+    | inl none ↦ let d = delivered_err old new s ran.answer run_fault.Memory none.0.0 ran.delivered in rw d.0 (at_memory old new words none.1 none.0.1 d.1)
     | inr job ↦
         job_at old new words s job.0 job.1 (begun_at (source_of old new) (meaning words) ran.answer job.2)
         (job_cause old new words s ran.answer ran.allowed ran.delivered job.2)

@@ -5,14 +5,16 @@ use Rattle.mov_edge.specs.Outside.{Lacks, Rose, Tells, next_count}
 use Rattle.ballot_csv.specs.BallotFile.{NamedPoll}
 use Rattle.cert_text.specs.declared.cert.Cert.{Cert}
 use Rattle.margin_check.specs.declared.verdict.Verdict.{Verdict}
-use Rattle.mov_run.specs.Allowed.{Answer, AnswersOrMemory, Began, HasNoCert, IsCertFile, IsContestFile, IsFile, IsReadContest, IsReadFile, IsVerdict, Shelf, Source}
-use Rattle.mov_run.specs.Verdicts.{status_after, verdict_text}
+use Rattle.mov_run.specs.Jobs.{Answer, AnswersOrMemory, IsVerdict}
+use Rattle.mov_run.specs.Inputs.{Began, HasNoCert, IsCertFile, IsContestFile, IsFile, IsReadContest, IsReadFile, Shelf, Source}
+use Rattle.mov_run.specs.Status.{status_after}
+use Rattle.mov_run.specs.Verdicts.{verdict_text}
 use Rattle.mov_run.specs.Words.{file_count}
 use Rattle.mov_run.specs.declared.jobs.Job.{Job}
 use Rattle.mov_run.specs.declared.jobs.Job.TheVariants.{Check}
 use Rattle.mov_run.specs.declared.runs.Status.{Status}
-use Rattle.mov_run.specs.declared.stops.Stop.{Stop}
-use Rattle.mov_run.specs.declared.stops.Stop.TheVariants.{Memory}
+use Rattle.mov_run.specs.declared.run_faults.RunFault.{RunFault}
+use Rattle.mov_run.specs.declared.run_faults.RunFault.TheVariants.{Memory}
 
 abbrev pub over : Shelf → Shelf → Source
 over old new = record { old = old; new = new }
@@ -54,7 +56,7 @@ cert_later old mid new name cert same kept is = record {
   said = is.said;
 }
 
-no_cert_later : (old mid new : Shelf) (name : List ℕ) (why : Stop) → mid.told ≡ old.told → mid.faults ≡ old.faults → HasNoCert (over mid new) name why → HasNoCert (over old new) name why
+no_cert_later : (old mid new : Shelf) (name : List ℕ) (why : RunFault) → mid.told ≡ old.told → mid.faults ≡ old.faults → HasNoCert (over mid new) name why → HasNoCert (over old new) name why
 no_cert_later old mid new name why same kept (inl unread) = inl (
   unread.0,
   record {
@@ -88,7 +90,7 @@ no_cert_later old mid new name why same kept (inr (inr faulty)) = inr (inr (
 pub begun_twice : (old mid new : Shelf) → mid.begun ≡ next_count old.begun → new.begun ≡ next_count mid.begun → Began (over old new) 2
 begun_twice old mid new one other = other ∙ ap next_count one
 
-pub check_stops : (old mid new : Shelf) (file name : List ℕ) (k : NamedPoll) (why : Stop) (a : Answer) → IsReadContest (over old mid) file k → HasNoCert (over mid new) name why ⊎ (why ≡ Memory)
+pub check_stops : (old mid new : Shelf) (file name : List ℕ) (k : NamedPoll) (why : RunFault) (a : Answer) → IsReadContest (over old mid) file k → HasNoCert (over mid new) name why ⊎ (why ≡ Memory)
     → mid.told ≡ old.told → mid.faults ≡ old.faults → mid.begun ≡ next_count old.begun → new.begun ≡ next_count mid.begun → a ≡ Err why → AnswersOrMemory (over old new) (Check file name) a
 check_stops old mid new file name k why a contest (inl none) same kept one other is =
     inl (inr (k, (contest_later old mid new file k contest, begun_twice old mid new one other, inl (why, is, no_cert_later old mid new name why same kept none))))

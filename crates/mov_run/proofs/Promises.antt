@@ -6,9 +6,9 @@ use Rattle.ballot_form.specs.declared.rule.Rule.TheVariants.{Plurality}
 use Rattle.cert_text.specs.CertText.{CertText}
 use Rattle.cert_text.specs.declared.cert.Cert.{Cert}
 use Rattle.margin_solve.specs.Certificates.{IsCertOf}
-use Rattle.mov_run.specs.Allowed.{Answers, IsCertified, IsShown, IsTallied}
+use Rattle.mov_run.specs.Jobs.{Answers, IsCertified, IsShown, IsTallied}
 use Rattle.mov_run.specs.Promised.{Promised, WritesMargin, WritesPlain, WritesTally}
-use Rattle.mov_run.specs.Ran.{Outside, Ran, source_of}
+use Rattle.mov_run.specs.Run.{Outside, Ran, source_of}
 use Rattle.mov_run.specs.Tally.{IsTally}
 use Rattle.mov_run.specs.declared.jobs.Job.TheVariants.{Tally, Margin, Show}
 use Rattle.mov_run.specs.declared.runs.Status.{Status}

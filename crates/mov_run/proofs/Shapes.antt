@@ -8,15 +8,17 @@ use Rattle.margin_check.specs.Verdicts.{IsRefusal}
 use Rattle.margin_check.specs.declared.verdict.Reason.{Reason}
 use Rattle.margin_check.specs.declared.verdict.Verdict.{Verdict}
 use Rattle.margin_check.specs.declared.verdict.Verdict.TheVariants.{Valid, No}
-use Rattle.mov_run.specs.Allowed.{Answer, Answers, AnswersWords, Began, BeganAtMost, HasNoCert, HasNoContest, IsCertFile, IsCertified, IsChecked, IsContestFile, IsOutOfMemory, IsReadContest, IsShown, IsTallied, IsVerdict, OverBallots, OverCert, OverContest, Source}
-use Rattle.mov_run.specs.Verdicts.{refused_text, status_after, valid_text, verdict_text}
+use Rattle.mov_run.specs.Jobs.{Answer, Answers, AnswersWords, IsCertified, IsChecked, IsOutOfMemory, IsShown, IsTallied, IsVerdict, OverBallots, OverCert, OverContest}
+use Rattle.mov_run.specs.Inputs.{Began, BeganAtMost, HasNoCert, HasNoContest, IsCertFile, IsContestFile, IsReadContest, Source}
+use Rattle.mov_run.specs.Verdicts.{refused_text, valid_text, verdict_text}
+use Rattle.mov_run.specs.Status.{status_after}
 use Rattle.mov_run.specs.Words.{BallotFile, IsNoCommand, file_count}
 use Rattle.mov_run.specs.declared.jobs.Job.{Job}
 use Rattle.mov_run.specs.declared.jobs.Job.TheVariants.{Tally, Margin, Check, Show}
 use Rattle.mov_run.specs.declared.jobs.WordFault.{WordFault}
 use Rattle.mov_run.specs.declared.runs.Status.TheVariants.{Done, Refused}
-use Rattle.mov_run.specs.declared.stops.Stop.{Stop}
-use Rattle.mov_run.specs.declared.stops.Stop.TheVariants as stop
+use Rattle.mov_run.specs.declared.run_faults.RunFault.{RunFault}
+use Rattle.mov_run.specs.declared.run_faults.RunFault.TheVariants as run_fault
 use Rattle.mov_run.proofs.Told.{contest_of}
 
 -- ---- the answer of a job
@@ -25,7 +27,7 @@ use Rattle.mov_run.proofs.Told.{contest_of}
 pub record AtBallots (src : Source) (m : Result Job WordFault) (a : Answer) : Type 0 where
   pub file : List ℕ
   pub named : BallotFile m file
-  pub t : Stop
+  pub t : RunFault
   pub is : a ≡ Err t
   pub why : HasNoContest src file t
   pub begun : Began src 1
@@ -38,7 +40,7 @@ pub record AtCert (src : Source) (m : Result Job WordFault) (a : Answer) : Type 
   pub job : m ≡ Ok (Check file name)
   pub contest : IsContestFile src file k
   pub begun : Began src 2
-  pub t : Stop
+  pub t : RunFault
   pub is : a ≡ Err t
   pub why : HasNoCert src name t
 
@@ -131,7 +133,7 @@ job_shape src (Show file) a by = ballots_shape src (Ok (Show file)) file IsShown
 
 abbrev pub Shape : Source → Result Job WordFault → Answer → Type 0
 Shape src m a =
-    ((f : WordFault) × (m ≡ Err f) × (a ≡ Err (stop.Words f)) × Began src 0)
+    ((f : WordFault) × (m ≡ Err f) × (a ≡ Err (run_fault.Words f)) × Began src 0)
     ⊎ (IsOutOfMemory src (file_count m) a × (IsNoCommand m → ⊥))
     ⊎ ((job : Job) × (m ≡ Ok job) × JobShape src m a)
 

@@ -5,11 +5,10 @@ use Rattle.mov_edge.specs.Outside.{Named, Lacks, Rose, Tells}
 use Rattle.ballot_csv.specs.BallotFile.{NamedPoll, read_of}
 use Rattle.cert_text.specs.CertText.{CertText}
 use Rattle.cert_text.specs.declared.cert.Cert.{Cert}
-use Rattle.mov_run.specs.Allowed.{Answer, Began, HasNoCert, HasNoContest, IsCertFile, IsContestFile, IsReadContest, OverBallots, OverBoth, OverCert, OverContest, Source}
-use Rattle.mov_run.specs.Checked.{IsToldCert}
-use Rattle.mov_run.specs.Ends.{IsToldContest}
-use Rattle.mov_run.specs.Ran.{Outside, source_of}
-use Rattle.mov_run.specs.declared.stops.Stop.{Stop}
+use Rattle.mov_run.specs.Jobs.{Answer, OverBallots, OverBoth, OverCert, OverContest}
+use Rattle.mov_run.specs.Inputs.{Began, HasNoCert, HasNoContest, IsCertFile, IsContestFile, IsReadContest, Source}
+use Rattle.mov_run.specs.Run.{IsToldCert, IsToldContest, Outside, source_of}
+use Rattle.mov_run.specs.declared.run_faults.RunFault.{RunFault}
 
 pub not_both : (told : Option (List Named)) (name bytes : List ℕ) → Tells told name bytes → Lacks told name → ⊥
 not_both None name bytes t l = t
@@ -27,7 +26,7 @@ ok_or_err r k f a b = cc
 -- ---- ballot files
 
 -- a told contest comes of its file
-pub no_stop : (old new : Outside) (file : List ℕ) (k : NamedPoll) (t : Stop) → IsToldContest old file k → (Rose old.files.faults new.files.faults → ⊥) → HasNoContest (source_of old new) file t → ⊥
+pub no_stop : (old new : Outside) (file : List ℕ) (k : NamedPoll) (t : RunFault) → IsToldContest old file k → (Rose old.files.faults new.files.faults → ⊥) → HasNoContest (source_of old new) file t → ⊥
 no_stop old new file k t told quiet (inl unread) = elim unread.1.why [ inl rose ↦ quiet rose | inr lacks ↦ not_both old.files.told file told.bytes told.told lacks ]
 no_stop old new file k t told quiet (inr (inl long)) = let lt = long.1.told told.bytes told.told in let le = told.accepted.0 in omega arith
 no_stop old new file k t told quiet (inr (inr faulty)) =
@@ -63,7 +62,7 @@ both_answer old new file name k next a told quiet over =
 -- ---- certificates
 
 -- a told certificate comes of its file
-pub no_cert_stop : (old new : Outside) (name : List ℕ) (cert : Cert) (t : Stop) → IsToldCert old name cert → (Rose old.files.faults new.files.faults → ⊥) → HasNoCert (source_of old new) name t → ⊥
+pub no_cert_stop : (old new : Outside) (name : List ℕ) (cert : Cert) (t : RunFault) → IsToldCert old name cert → (Rose old.files.faults new.files.faults → ⊥) → HasNoCert (source_of old new) name t → ⊥
 no_cert_stop old new name cert t told quiet (inl unread) = elim unread.1.why [ inl rose ↦ quiet rose | inr lacks ↦ not_both old.files.told name told.bytes told.told lacks ]
 no_cert_stop old new name cert t told quiet (inr (inl long)) = let lt = long.1.told told.bytes told.told in let le = told.short in omega arith
 no_cert_stop old new name cert t told quiet (inr (inr faulty)) =
