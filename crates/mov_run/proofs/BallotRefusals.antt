@@ -2,22 +2,23 @@
 use Rattle.std.proofs.Common.{ℕ, List, ◌≡◌, ◌≤◌, ◌<◌, ◌⊎◌, ◌∙◌, length, refl, sym, ap, subst, inl, inr, arith}
 use Rattle.std.specs.Prelude.{Ok, Err}
 use Rattle.mov_edge.specs.Outside.{Lacks, Rose, Tells}
-use Rattle.ballot_csv.specs.BallotFile.{NamedPoll, read_of}
+use Rattle.ballot_csv.specs.BallotFile.{IsFaulty, NamedPoll, read_of}
 use Rattle.ballot_csv.specs.declared.fault.BallotFault.{BallotFault}
 use Rattle.ballot_csv.specs.declared.limits.TheConstants.{LONGEST_FILE}
-use Rattle.mov_run.specs.Allowed.{Answer, HasNoCert, HasNoContest, IsContestFile, IsUnread}
-use Rattle.mov_run.specs.Checked.{LacksCert}
-use Rattle.mov_run.specs.Ends.{EndsWith, IsToldContest}
-use Rattle.mov_run.specs.Promised.{RefusesBallots}
-use Rattle.mov_run.specs.Ran.{Delivers, Outside, Ran, SaysLine, Stopped, line_of, source_of, status_of}
+use Rattle.mov_run.specs.Jobs.{Answer}
+use Rattle.mov_run.specs.Inputs.{HasNoCert, HasNoContest, IsContestFile, IsUnread}
+use Rattle.mov_run.specs.Promised.{LacksCert, RefusesBallots}
+use Rattle.mov_run.specs.Run.{EndsWith, IsToldContest, Delivers, Outside, Ran, SaysLine, EndsEarly, source_of}
+use Rattle.mov_run.specs.RunFaults.{line_of}
+use Rattle.mov_run.specs.Status.{status_of}
 use Rattle.mov_run.specs.Verdicts.{refused_text}
 use Rattle.mov_run.specs.Words.{BallotFile, meaning}
 use Rattle.mov_run.specs.declared.jobs.Job.TheVariants.{Check}
 use Rattle.mov_run.specs.declared.runs.Output.{Output}
 use Rattle.mov_run.specs.declared.runs.Status.{Status}
 use Rattle.mov_run.specs.declared.runs.Status.TheVariants.{Done, Refused, Certificate, Ballots, Read, Write, Memory}
-use Rattle.mov_run.specs.declared.stops.Stop.{Stop}
-use Rattle.mov_run.specs.declared.stops.Stop.TheVariants as stop
+use Rattle.mov_run.specs.declared.run_faults.RunFault.{RunFault}
+use Rattle.mov_run.specs.declared.run_faults.RunFault.TheVariants as run_fault
 use Rattle.mov_run.proofs.Delivered.{Goes, delivered_err, delivered_ok, memory_of}
 use Rattle.mov_run.proofs.Shapes.{JobShape, file_of_check, no_ballot_file, one_ballot_file, shape}
 use Rattle.mov_run.proofs.Told.{err_is, no_stop, not_both, ok_or_err}
@@ -34,7 +35,7 @@ Ended old new words s = (s ≡ Done) ⊎ (s ≡ Refused) ⊎ (s ≡ Write) ⊎ (
 abbrev AtFile : Outside → Outside → List (List ℕ) → Status → List ℕ → Type 0
 AtFile old new words s file =
     (s ≡ Memory)
-    ⊎ ((t : Stop) × (s ≡ status_of t) × Stopped old new t × HasNoContest (source_of old new) file t)
+    ⊎ ((t : RunFault) × (s ≡ status_of t) × EndsEarly old new t × HasNoContest (source_of old new) file t)
     ⊎ ((k : NamedPoll) × IsContestFile (source_of old new) file k × Ended old new words s)
 
 text_end : (old new : Outside) (words : List (List ℕ)) (s : Status) (text : List ℕ) → Goes old new s (record { ends = Done; text = text }) → Ended old new words s
@@ -45,7 +46,7 @@ refusal_end : (old new : Outside) (words : List (List ℕ)) (s : Status) (text :
 refusal_end old new words s text (inl w) = inr (inl w.0)
 refusal_end old new words s text (inr c) = inr (inr (inl c.0))
 
-cert_end : (old new : Outside) (words : List (List ℕ)) (s : Status) (file name : List ℕ) (t : Stop) → meaning words ≡ Ok (Check file name) → s ≡ status_of t
+cert_end : (old new : Outside) (words : List (List ℕ)) (s : Status) (file name : List ℕ) (t : RunFault) → meaning words ≡ Ok (Check file name) → s ≡ status_of t
     → HasNoCert (source_of old new) name t → Ended old new words s
 cert_end old new words s file name t job is (inl unread) = inr (inr (inr (inr (is ∙ ap status_of unread.0, (file, name, job, unread.1)))))
 cert_end old new words s file name t job is (inr (inl long)) = inr (inr (inr (inl (is ∙ ap status_of long.0))))
@@ -87,55 +88,55 @@ at_file : (old new : Outside) (words : List (List ℕ)) (s : Status) (file : Lis
 at_file old new words s file ran named = elim (shape (source_of old new) (meaning words) ran.answer ran.allowed) [
   | inl f ↦ absurd (no_ballot_file (meaning words) f.0 file f.1 named)
   | inr rest ↦ elim rest [
-    | inl none ↦ inl (memory_of old new s ran.answer none.0 ran.delivered)
+    | inl none ↦ inl (memory_of old new s ran.answer none.0.0 ran.delivered)
     | inr job ↦ at_shape old new words s file ran.answer ran.delivered named job.2
   ]
 ]
 
-pub ends_with : (old new : Outside) (s : Status) (t wanted : Stop) (ends : Status) → s ≡ status_of t → Stopped old new t → t ≡ wanted → status_of wanted ≡ ends → EndsWith old new s ends (line_of wanted)
+pub ends_with : (old new : Outside) (s : Status) (t wanted : RunFault) (ends : Status) → s ≡ status_of t → EndsEarly old new t → t ≡ wanted → status_of wanted ≡ ends → EndsWith old new s ends (line_of wanted)
 ends_with old new s t wanted ends is stopped same there =
     inl (is ∙ ap status_of same ∙ there, subst (λ v. SaysLine old new (line_of v)) same stopped.line)
 
-faulty_file : (old new : Outside) (words : List (List ℕ)) (s : Status) (file bytes : List ℕ) (fault : BallotFault) → AtFile old new words s file → Tells old.told file bytes → (Rose old.faults new.faults → ⊥)
-    → length bytes ≤ LONGEST_FILE → read_of bytes ≡ Err fault → EndsWith old new s Ballots (line_of (stop.Ballots fault))
-faulty_file old new words s file bytes fault (inl memory) tells quiet short read = inr memory
-faulty_file old new words s file bytes fault (inr (inr good)) tells quiet short read =
+faulty_file : (old new : Outside) (words : List (List ℕ)) (s : Status) (file bytes : List ℕ) (fault : BallotFault) → AtFile old new words s file → Tells old.files.told file bytes → (Rose old.files.faults new.files.faults → ⊥)
+    → IsFaulty bytes fault → EndsWith old new s Ballots (line_of (run_fault.Ballots fault))
+faulty_file old new words s file bytes fault (inl memory) tells quiet faulty_is = inr memory
+faulty_file old new words s file bytes fault (inr (inr good)) tells quiet faulty_is =
     let same : good.1.bytes ≡ bytes = good.1.file.told bytes tells in
-    absurd (ok_or_err (read_of bytes) good.0 fault (ap read_of (sym same) ∙ good.1.read) read)
-faulty_file old new words s file bytes fault (inr (inl stopped)) tells quiet short read = by stopped.0 stopped.1 stopped.2 stopped.3
+    absurd (ok_or_err (read_of bytes) good.0 fault (ap read_of (sym same) ∙ good.1.accepted.1) faulty_is.1)
+faulty_file old new words s file bytes fault (inr (inl stopped)) tells quiet faulty_is = by stopped.0 stopped.1 stopped.2 stopped.3
   where
-    by : (t : Stop) → s ≡ status_of t → Stopped old new t → HasNoContest (source_of old new) file t → EndsWith old new s Ballots (line_of (stop.Ballots fault))
-    by t is left (inl unread) = absurd (elim unread.1.why [ inl rose ↦ quiet rose | inr lacks ↦ not_both old.told file bytes tells lacks ])
-    by t is left (inr (inl long)) = absurd (let lt = long.1.told bytes tells in omega arith)
+    by : (t : RunFault) → s ≡ status_of t → EndsEarly old new t → HasNoContest (source_of old new) file t → EndsWith old new s Ballots (line_of (run_fault.Ballots fault))
+    by t is left (inl unread) = absurd (elim unread.1.why [ inl rose ↦ quiet rose | inr lacks ↦ not_both old.files.told file bytes tells lacks ])
+    by t is left (inr (inl long)) = absurd (let lt = long.1.told bytes tells in let le = faulty_is.0 in omega arith)
     by t is left (inr (inr faulty)) =
-        let same : faulty.2.bytes ≡ bytes = faulty.2.file.told bytes tells in
-        let one : faulty.0 ≡ fault = err_is (read_of bytes) faulty.0 fault (ap read_of (sym same) ∙ faulty.2.read) read in
-        ends_with old new s t (stop.Ballots fault) Ballots is left (faulty.1 ∙ ap stop.Ballots one) refl
+        let same : faulty.2.bytes ≡ bytes = faulty.2.read.file.told bytes tells in
+        let one : faulty.0 ≡ fault = err_is (read_of bytes) faulty.0 fault (ap read_of (sym same) ∙ faulty.2.faulty.1) faulty_is.1 in
+        ends_with old new s t (run_fault.Ballots fault) Ballots is left (faulty.1 ∙ ap run_fault.Ballots one) refl
 
-long_file : (old new : Outside) (words : List (List ℕ)) (s : Status) (file bytes : List ℕ) → AtFile old new words s file → Tells old.told file bytes → (Rose old.faults new.faults → ⊥)
-    → LONGEST_FILE < length bytes → EndsWith old new s Ballots (line_of stop.Long)
+long_file : (old new : Outside) (words : List (List ℕ)) (s : Status) (file bytes : List ℕ) → AtFile old new words s file → Tells old.files.told file bytes → (Rose old.files.faults new.files.faults → ⊥)
+    → LONGEST_FILE < length bytes → EndsWith old new s Ballots (line_of run_fault.Long)
 long_file old new words s file bytes (inl memory) tells quiet more = inr memory
 long_file old new words s file bytes (inr (inr good)) tells quiet more =
-    absurd (let same : good.1.bytes ≡ bytes = good.1.file.told bytes tells in let le : length bytes ≤ LONGEST_FILE = rw (← same) good.1.file.within in omega arith)
+    absurd (let same : good.1.bytes ≡ bytes = good.1.file.told bytes tells in let le : length bytes ≤ LONGEST_FILE = rw (← same) good.1.accepted.0 in omega arith)
 long_file old new words s file bytes (inr (inl stopped)) tells quiet more = by stopped.0 stopped.1 stopped.2 stopped.3
   where
-    by : (t : Stop) → s ≡ status_of t → Stopped old new t → HasNoContest (source_of old new) file t → EndsWith old new s Ballots (line_of stop.Long)
-    by t is left (inl unread) = absurd (elim unread.1.why [ inl rose ↦ quiet rose | inr lacks ↦ not_both old.told file bytes tells lacks ])
-    by t is left (inr (inl long)) = ends_with old new s t stop.Long Ballots is left long.0 refl
-    by t is left (inr (inr faulty)) = absurd (let same : faulty.2.bytes ≡ bytes = faulty.2.file.told bytes tells in let le : length bytes ≤ LONGEST_FILE = rw (← same) faulty.2.file.within in omega arith)
+    by : (t : RunFault) → s ≡ status_of t → EndsEarly old new t → HasNoContest (source_of old new) file t → EndsWith old new s Ballots (line_of run_fault.Long)
+    by t is left (inl unread) = absurd (elim unread.1.why [ inl rose ↦ quiet rose | inr lacks ↦ not_both old.files.told file bytes tells lacks ])
+    by t is left (inr (inl long)) = ends_with old new s t run_fault.Long Ballots is left long.0 refl
+    by t is left (inr (inr faulty)) = absurd (let same : faulty.2.bytes ≡ bytes = faulty.2.read.file.told bytes tells in let le : length bytes ≤ LONGEST_FILE = rw (← same) faulty.2.faulty.0 in omega arith)
 
-absent_file : (old new : Outside) (words : List (List ℕ)) (s : Status) (file : List ℕ) → AtFile old new words s file → Lacks old.told file → EndsWith old new s Read (line_of (stop.Read file))
+absent_file : (old new : Outside) (words : List (List ℕ)) (s : Status) (file : List ℕ) → AtFile old new words s file → Lacks old.files.told file → EndsWith old new s Read (line_of (run_fault.Read file))
 absent_file old new words s file (inl memory) lacks = inr memory
 absent_file old new words s file (inr (inr good)) lacks = absurd (good.1.file.there lacks)
 absent_file old new words s file (inr (inl stopped)) lacks = by stopped.0 stopped.1 stopped.2 stopped.3
   where
-    by : (t : Stop) → s ≡ status_of t → Stopped old new t → HasNoContest (source_of old new) file t → EndsWith old new s Read (line_of (stop.Read file))
-    by t is left (inl unread) = ends_with old new s t (stop.Read file) Read is left unread.0 refl
+    by : (t : RunFault) → s ≡ status_of t → EndsEarly old new t → HasNoContest (source_of old new) file t → EndsWith old new s Read (line_of (run_fault.Read file))
+    by t is left (inl unread) = ends_with old new s t (run_fault.Read file) Read is left unread.0 refl
     by t is left (inr (inl long)) = absurd (long.1.there lacks)
-    by t is left (inr (inr faulty)) = absurd (faulty.2.file.there lacks)
+    by t is left (inr (inr faulty)) = absurd (faulty.2.read.file.there lacks)
 
 -- after an accepted file a run ends neither with its fault nor with a file unread, unless the certificate file is absent
-accepted_end : (old new : Outside) (words : List (List ℕ)) (s : Status) → (Rose old.faults new.faults → ⊥) → Ended old new words s → (s ≡ Ballots → ⊥) × (s ≡ Read → LacksCert old words)
+accepted_end : (old new : Outside) (words : List (List ℕ)) (s : Status) → (Rose old.files.faults new.files.faults → ⊥) → Ended old new words s → (s ≡ Ballots → ⊥) × (s ≡ Read → LacksCert old words)
 accepted_end old new words s quiet (inl done) = (λ e. absurd (cc), λ e. absurd (cc))
 accepted_end old new words s quiet (inr (inl refused)) = (λ e. absurd (cc), λ e. absurd (cc))
 accepted_end old new words s quiet (inr (inr (inl cut))) = (λ e. absurd (cc), λ e. absurd (cc))
@@ -144,7 +145,7 @@ accepted_end old new words s quiet (inr (inr (inr (inr unread)))) =
     let at = unread.1 in
     (λ e. absurd (let is = unread.0 in cc), λ e. (at.0, at.1, at.2, elim at.3.why [ inl rose ↦ absurd (quiet rose) | inr lacks ↦ lacks ]))
 
-accepted_file : (old new : Outside) (words : List (List ℕ)) (s : Status) (file : List ℕ) (k : NamedPoll) → AtFile old new words s file → IsToldContest old file k → (Rose old.faults new.faults → ⊥)
+accepted_file : (old new : Outside) (words : List (List ℕ)) (s : Status) (file : List ℕ) (k : NamedPoll) → AtFile old new words s file → IsToldContest old file k → (Rose old.files.faults new.files.faults → ⊥)
     → (s ≡ Ballots → ⊥) × (s ≡ Read → LacksCert old words)
 accepted_file old new words s file k (inl memory) told quiet = (λ e. absurd (cc), λ e. absurd (cc))
 accepted_file old new words s file k (inr (inl stopped)) told quiet = absurd (no_stop old new file k stopped.0 told quiet stopped.3)
@@ -152,7 +153,7 @@ accepted_file old new words s file k (inr (inr good)) told quiet = accepted_end 
 
 pub refuses : (old new : Outside) (words : List (List ℕ)) (s : Status) → Ran old new words s → RefusesBallots old new words s
 refuses old new words s ran = record {
-  faulty = λ file bytes fault named tells quiet short read. faulty_file old new words s file bytes fault (at_file old new words s file ran named) tells quiet short read;
+  faulty = λ file bytes fault named tells quiet is. faulty_file old new words s file bytes fault (at_file old new words s file ran named) tells quiet is;
   long = λ file bytes named tells quiet more. long_file old new words s file bytes (at_file old new words s file ran named) tells quiet more;
   absent = λ file named lacks quiet. absent_file old new words s file (at_file old new words s file ran named) lacks;
   accepted = λ file k named told quiet. accepted_file old new words s file k (at_file old new words s file ran named) told quiet;

@@ -1,246 +1,176 @@
 -- Each status and its cause.
-use Rattle.std.proofs.Common.{ℕ, List, ◌≡◌, ◌⊎◌, ◌∙◌, refl, ap, subst, inl, inr}
-use Rattle.std.specs.Prelude.{Ok, Err}
+use Rattle.std.proofs.Common.{ℕ, List, ◌≡◌, ◌⊎◌, ◌∙◌, refl, ap, subst, inl, inr, arith}
+use Rattle.std.specs.Prelude.{Ok, Err, codes}
+use Rattle.mov_edge.specs.Loads.{TookFirst}
+use Rattle.mov_edge.specs.Outside.{Rose, Took}
 use Rattle.ballot_csv.specs.declared.fault.BallotFault.{BallotFault}
 use Rattle.ballot_csv.specs.declared.limits.TheConstants.{LONGEST_FILE}
-use Rattle.mov_run.specs.Allowed.{Allowed, Answer, HasNoCert, HasNoContest, IsFaultyFile, IsLong}
-use Rattle.mov_run.specs.Checked.{CertCause, ReadCause, RefusalCause, WentOn}
-use Rattle.mov_run.specs.Promised.{Causes}
-use Rattle.mov_run.specs.Ran.{CutShort, Delivers, Outside, Ran, SaysLine, Stopped, Wrote, line_of, source_of, status_of}
+use Rattle.mov_run.specs.Jobs.{Allowed, Answer}
+use Rattle.mov_run.specs.Inputs.{Began, BeganAtMost, HasNoCert, HasNoContest, IsFaultyFile, IsLong}
+use Rattle.mov_run.specs.Causes.{CertCause, ReadCause, RefusalCause, WentOn, Causes}
+use Rattle.mov_run.specs.Status.{IsEarlyEnd, IsWritten, status_of}
+use Rattle.mov_run.specs.Run.{CutShort, Delivers, Outside, Ran, SaysLine, EndsEarly, Wrote, source_of, EndsWith}
+use Rattle.mov_run.specs.RunFaults.{line_of}
 use Rattle.mov_run.specs.Verdicts.{refused_text}
-use Rattle.mov_run.specs.Words.{BallotFile, IsNoCommand, meaning}
+use Rattle.mov_run.specs.Words.{BallotFile, IsNoCommand, file_count, meaning}
 use Rattle.mov_run.specs.declared.jobs.Job.{Job}
-use Rattle.mov_run.specs.declared.jobs.Job.TheVariants.{Check}
 use Rattle.mov_run.specs.declared.jobs.WordFault.{WordFault}
 use Rattle.mov_run.specs.declared.runs.Output.{Output}
 use Rattle.mov_run.specs.declared.runs.Status.{Status}
-use Rattle.mov_run.specs.declared.runs.Status.TheVariants.{Done, Refused, Words, Ballots, Certificate, Read, Write, Memory}
-use Rattle.mov_run.specs.declared.stops.Stop.{Stop}
-use Rattle.mov_run.specs.declared.stops.Stop.TheVariants as stop
+use Rattle.mov_run.specs.declared.runs.Status.TheVariants.{Done, Bounds, Refused, Words, Ballots, Certificate, Read, Write, Memory}
+use Rattle.mov_run.specs.declared.run_faults.RunFault.{RunFault}
+use Rattle.mov_run.specs.declared.run_faults.RunFault.TheVariants as run_fault
 use Rattle.mov_run.proofs.Delivered.{Goes, delivered_err, delivered_ok}
 use Rattle.mov_run.proofs.Accepted.{valid_cause}
-use Rattle.mov_run.proofs.Shapes.{AtCert, AtRefusal, JobShape, not_err, not_none, one_fault, shape}
+use Rattle.mov_run.proofs.Shapes.{AtCert, AtRefusal, JobShape, begun_at, not_err, not_none, one_fault, shape}
 
 -- ---- at each status
 
-at_words : (old new : Outside) (words : List (List ℕ)) (f : WordFault) → meaning words ≡ Err f → Stopped old new (stop.Words f) → Causes old new words Words
-at_words old new words f m left = record {
-  words_only = λ e. (f, m, left.line);
-  words_come = λ g n. inl (refl, subst (λ v. SaysLine old new (line_of (stop.Words v))) (one_fault (meaning words) f g m n) left.line);
-  no_command = λ e. refl;
-  ballots = λ e. absurd (cc);
-  certificate = λ e. absurd (cc);
-  read = λ e. absurd (cc);
-  write = λ e. absurd (cc);
-  memory = λ e. absurd (cc);
-  silent = λ e. left.silent;
-  quiet = λ e. absurd e;
-  done = λ e. absurd (cc);
-  valid = λ e. absurd (cc);
-  refused = λ e. absurd (cc);
-  no_bounds = λ e. cc;
-}
+-- nothing but the text went out
+abbrev Quiet : Outside → Outside → Type 0
+Quiet old new = (new.err ≡ old.err) × (new.files.faults ≡ old.files.faults) × (new.out.faults ≡ old.out.faults)
 
-at_memory : (old new : Outside) (words : List (List ℕ)) → (IsNoCommand (meaning words) → ⊥) → Stopped old new stop.Memory → Causes old new words Memory
-at_memory old new words known left = record {
-  words_only = λ e. absurd (cc);
-  words_come = λ f m. inr refl;
-  no_command = λ e. absurd (known e);
-  ballots = λ e. absurd (cc);
-  certificate = λ e. absurd (cc);
-  read = λ e. absurd (cc);
-  write = λ e. absurd (cc);
-  memory = λ e. left.line;
-  silent = λ e. left.silent;
-  quiet = λ e. absurd e;
-  done = λ e. absurd (cc);
-  valid = λ e. absurd (cc);
-  refused = λ e. absurd (cc);
-  no_bounds = λ e. cc;
-}
+-- what there is to say of a run that ends with a status
+abbrev CauseAt : Outside → Outside → List (List ℕ) → Status → Type 0
+CauseAt old new words Words = (new.out ≡ old.out) × ((fault : WordFault) × (meaning words ≡ Err fault) × SaysLine old new (line_of (run_fault.Words fault)))
+CauseAt old new words Ballots = (new.out ≡ old.out)
+    × ((file : List ℕ) × BallotFile (meaning words) file × Began (source_of old new) 1
+    × ((IsLong (source_of old new) file LONGEST_FILE × SaysLine old new (line_of run_fault.Long))
+    ⊎ ((fault : BallotFault) × IsFaultyFile (source_of old new) file fault × SaysLine old new (line_of (run_fault.Ballots fault)))))
+CauseAt old new words Certificate = (new.out ≡ old.out) × CertCause old new words
+CauseAt old new words Read = (new.out ≡ old.out) × ReadCause old new words
+CauseAt old new words Memory = (new.out ≡ old.out) × SaysLine old new (line_of run_fault.Memory)
+CauseAt old new words Write = Rose old.out.faults new.out.faults
+    × ((output : Output) × Allowed (source_of old new) words (Ok output) × TookFirst old.out.taken new.out.taken output.text)
+    × SaysLine old new (codes "mov: write failed\n")
+CauseAt old new words Done = Quiet old new
+    × ((text : List ℕ) × Allowed (source_of old new) words (Ok (record { ends = Done; text = text })) × Took old.out.taken new.out.taken text)
+CauseAt old new words Refused = Quiet old new × RefusalCause old new words
+CauseAt old new words Bounds = ⊥
 
-at_read : (old new : Outside) (words : List (List ℕ)) (job : Job) → meaning words ≡ Ok job → new.out ≡ old.out → ReadCause old new words → Causes old new words Read
-at_read old new words job m silent why = record {
-  words_only = λ e. absurd (cc);
-  words_come = λ f n. absurd (not_err (meaning words) job f m n);
-  no_command = λ e. absurd (not_none (meaning words) job m e);
-  ballots = λ e. absurd (cc);
-  certificate = λ e. absurd (cc);
-  read = λ e. why;
-  write = λ e. absurd (cc);
-  memory = λ e. absurd (cc);
-  silent = λ e. silent;
-  quiet = λ e. absurd e;
-  done = λ e. absurd (cc);
-  valid = λ e. absurd (cc);
-  refused = λ e. absurd (cc);
-  no_bounds = λ e. cc;
-}
+silent_at : (old new : Outside) (words : List (List ℕ)) (s : Status) → IsEarlyEnd s → CauseAt old new words s → new.out ≡ old.out
+silent_at old new words Words e at = at.0
+silent_at old new words Ballots e at = at.0
+silent_at old new words Certificate e at = at.0
+silent_at old new words Read e at = at.0
+silent_at old new words Memory e at = at.0
+silent_at old new words s e at = absurd e
 
-at_ballots : (old new : Outside) (words : List (List ℕ)) (job : Job) (file : List ℕ) → meaning words ≡ Ok job → BallotFile (meaning words) file → new.out ≡ old.out
-    → ((IsLong (source_of old new) file LONGEST_FILE × SaysLine old new (line_of stop.Long))
-    ⊎ ((fault : BallotFault) × IsFaultyFile (source_of old new) file fault × SaysLine old new (line_of (stop.Ballots fault))))
-    → Causes old new words Ballots
-at_ballots old new words job file m named silent why = record {
-  words_only = λ e. absurd (cc);
-  words_come = λ f n. absurd (not_err (meaning words) job f m n);
-  no_command = λ e. absurd (not_none (meaning words) job m e);
-  ballots = λ e. (file, named, why);
-  certificate = λ e. absurd (cc);
-  read = λ e. absurd (cc);
-  write = λ e. absurd (cc);
-  memory = λ e. absurd (cc);
-  silent = λ e. silent;
-  quiet = λ e. absurd e;
-  done = λ e. absurd (cc);
-  valid = λ e. absurd (cc);
-  refused = λ e. absurd (cc);
-  no_bounds = λ e. cc;
-}
+quiet_at : (old new : Outside) (words : List (List ℕ)) (s : Status) → IsWritten s → CauseAt old new words s → Quiet old new
+quiet_at old new words Done e at = at.0
+quiet_at old new words Refused e at = at.0
+quiet_at old new words Bounds e at = absurd at
+quiet_at old new words s e at = absurd e
 
-at_certificate : (old new : Outside) (words : List (List ℕ)) (job : Job) → meaning words ≡ Ok job → new.out ≡ old.out → CertCause old new words → Causes old new words Certificate
-at_certificate old new words job m silent why = record {
-  words_only = λ e. absurd (cc);
-  words_come = λ f n. absurd (not_err (meaning words) job f m n);
-  no_command = λ e. absurd (not_none (meaning words) job m e);
-  ballots = λ e. absurd (cc);
-  certificate = λ e. why;
-  read = λ e. absurd (cc);
-  write = λ e. absurd (cc);
-  memory = λ e. absurd (cc);
-  silent = λ e. silent;
-  quiet = λ e. absurd e;
-  done = λ e. absurd (cc);
-  valid = λ e. absurd (cc);
-  refused = λ e. absurd (cc);
-  no_bounds = λ e. cc;
-}
+-- what is said at one status is said at each
+causes_at : (old new : Outside) (words : List (List ℕ)) (s : Status) → ((fault : WordFault) → meaning words ≡ Err fault → EndsWith old new s Words (line_of (run_fault.Words fault)))
+    → (IsNoCommand (meaning words) → s ≡ Words) → BeganAtMost (source_of old new) (file_count (meaning words)) → CauseAt old new words s → Causes old new words s
+causes_at old new words s come none begun at =
+    let to : (t : Status) → s ≡ t → CauseAt old new words t = λ t e. subst (λ v. CauseAt old new words v) e at in
+    record {
+      words_only = λ e. (to Words e).1;
+      words_come = come;
+      no_command = none;
+      ballots = λ e. (to Ballots e).1;
+      certificate = λ e. (to Certificate e).1;
+      read = λ e. (to Read e).1;
+      write = λ e. to Write e;
+      memory = λ e. (to Memory e).1;
+      begun = begun;
+      silent = λ e. silent_at old new words s e at;
+      quiet = λ e. quiet_at old new words s e at;
+      done = λ e. (to Done e).1;
+      valid = λ e file name check. let made = (to Done e).1 in valid_cause old new words file name made.0 check made.1 made.2;
+      refused = λ e. (to Refused e).1;
+      no_bounds = λ e. to Bounds e;
+    }
 
-at_done : (old new : Outside) (words : List (List ℕ)) (job : Job) (text : List ℕ) → meaning words ≡ Ok job → Allowed (source_of old new) words (Ok (record { ends = Done; text = text }))
-    → Wrote old new text → Causes old new words Done
-at_done old new words job text m allowed wrote = record {
-  words_only = λ e. absurd (cc);
-  words_come = λ f n. absurd (not_err (meaning words) job f m n);
-  no_command = λ e. absurd (not_none (meaning words) job m e);
-  ballots = λ e. absurd (cc);
-  certificate = λ e. absurd (cc);
-  read = λ e. absurd (cc);
-  write = λ e. absurd (cc);
-  memory = λ e. absurd (cc);
-  silent = λ e. absurd e;
-  quiet = λ e. (wrote.quiet, wrote.no_fault.0, wrote.no_fault.1);
-  done = λ e. (text, allowed, wrote.whole);
-  valid = λ e file name check. valid_cause old new words file name text check allowed wrote.whole;
-  refused = λ e. absurd (cc);
-  no_bounds = λ e. cc;
-}
+-- the same, where the words are a job
+job_at : (old new : Outside) (words : List (List ℕ)) (s : Status) (job : Job) → meaning words ≡ Ok job → BeganAtMost (source_of old new) (file_count (meaning words)) → CauseAt old new words s
+    → Causes old new words s
+job_at old new words s job m begun at =
+    causes_at old new words s (λ f n. absurd (not_err (meaning words) job f m n)) (λ e. absurd (not_none (meaning words) job m e)) begun at
 
-at_refused : (old new : Outside) (words : List (List ℕ)) (job : Job) (text : List ℕ) → meaning words ≡ Ok job → Wrote old new text → RefusalCause old new words → Causes old new words Refused
-at_refused old new words job text m wrote why = record {
-  words_only = λ e. absurd (cc);
-  words_come = λ f n. absurd (not_err (meaning words) job f m n);
-  no_command = λ e. absurd (not_none (meaning words) job m e);
-  ballots = λ e. absurd (cc);
-  certificate = λ e. absurd (cc);
-  read = λ e. absurd (cc);
-  write = λ e. absurd (cc);
-  memory = λ e. absurd (cc);
-  silent = λ e. absurd e;
-  quiet = λ e. (wrote.quiet, wrote.no_fault.0, wrote.no_fault.1);
-  done = λ e. absurd (cc);
-  valid = λ e. absurd (cc);
-  refused = λ e. why;
-  no_bounds = λ e. cc;
-}
+at_words : (old new : Outside) (words : List (List ℕ)) (f : WordFault) → meaning words ≡ Err f → Began (source_of old new) 0 → EndsEarly old new (run_fault.Words f) → Causes old new words Words
+at_words old new words f m begun left =
+    causes_at old new words Words (λ g n. inl (refl, subst (λ v. SaysLine old new (line_of (run_fault.Words v))) (one_fault (meaning words) f g m n) left.line)) (λ e. refl)
+    (record { count = 0; within = omega arith; begun = begun }) (left.silent, (f, m, left.line))
 
-at_write : (old new : Outside) (words : List (List ℕ)) (job : Job) (o : Output) → meaning words ≡ Ok job → Allowed (source_of old new) words (Ok o) → CutShort old new o.text → Causes old new words Write
-at_write old new words job o m allowed cut = record {
-  words_only = λ e. absurd (cc);
-  words_come = λ f n. absurd (not_err (meaning words) job f m n);
-  no_command = λ e. absurd (not_none (meaning words) job m e);
-  ballots = λ e. absurd (cc);
-  certificate = λ e. absurd (cc);
-  read = λ e. absurd (cc);
-  write = λ e. (cut.rose, (o, allowed, cut.part), cut.line);
-  memory = λ e. absurd (cc);
-  silent = λ e. absurd e;
-  quiet = λ e. absurd e;
-  done = λ e. absurd (cc);
-  valid = λ e. absurd (cc);
-  refused = λ e. absurd (cc);
-  no_bounds = λ e. cc;
-}
+at_memory : (old new : Outside) (words : List (List ℕ)) → (IsNoCommand (meaning words) → ⊥) → BeganAtMost (source_of old new) (file_count (meaning words)) → EndsEarly old new run_fault.Memory
+    → Causes old new words Memory
+at_memory old new words known begun left = causes_at old new words Memory (λ f m. inr refl) (λ e. absurd (known e)) begun (left.silent, left.line)
 
 -- ---- at each shape of an answer
 
-says : (old new : Outside) (t wanted : Stop) → Stopped old new t → t ≡ wanted → SaysLine old new (line_of wanted)
+says : (old new : Outside) (t wanted : RunFault) → EndsEarly old new t → t ≡ wanted → SaysLine old new (line_of wanted)
 says old new t wanted left same = subst (λ v. SaysLine old new (line_of v)) same left.line
 
-ballot_stop : (old new : Outside) (words : List (List ℕ)) (s : Status) (job : Job) (file : List ℕ) (t : Stop) → meaning words ≡ Ok job → BallotFile (meaning words) file → s ≡ status_of t
-    → Stopped old new t → HasNoContest (source_of old new) file t → Causes old new words s
-ballot_stop old new words s job file t m named is left (inl unread) =
-    rw (is ∙ ap status_of unread.0) (at_read old new words job m left.silent (file, unread.1, says old new t (stop.Read file) left unread.0, inl named))
-ballot_stop old new words s job file t m named is left (inr (inl long)) =
-    rw (is ∙ ap status_of long.0) (at_ballots old new words job file m named left.silent (inl (long.1, says old new t stop.Long left long.0)))
-ballot_stop old new words s job file t m named is left (inr (inr faulty)) =
-    rw (is ∙ ap status_of faulty.1) (at_ballots old new words job file m named left.silent (inr (faulty.0, faulty.2, says old new t (stop.Ballots faulty.0) left faulty.1)))
+ballots_fault : (old new : Outside) (words : List (List ℕ)) (s : Status) (file : List ℕ) (t : RunFault) → BallotFile (meaning words) file → s ≡ status_of t → EndsEarly old new t
+    → HasNoContest (source_of old new) file t → Began (source_of old new) 1 → CauseAt old new words s
+ballots_fault old new words s file t named is left (inl unread) begun =
+    rw (is ∙ ap status_of unread.0) (left.silent, (file, unread.1, says old new t (run_fault.Read file) left unread.0, inl (named, begun)))
+ballots_fault old new words s file t named is left (inr (inl long)) begun =
+    rw (is ∙ ap status_of long.0) (left.silent, (file, named, begun, inl (long.1, says old new t run_fault.Long left long.0)))
+ballots_fault old new words s file t named is left (inr (inr faulty)) begun =
+    rw (is ∙ ap status_of faulty.1) (left.silent, (file, named, begun, inr (faulty.0, faulty.2, says old new t (run_fault.Ballots faulty.0) left faulty.1)))
 
 went_on : (old new : Outside) (words : List (List ℕ)) (a : Answer) (at : AtCert (source_of old new) (meaning words) a) → WentOn old new words at.name at.k
-went_on old new words a at = record { file = at.file; job = at.job; contest = at.contest }
+went_on old new words a at = record { file = at.file; job = at.job; contest = at.contest; begun = at.begun }
 
-cert_stop : (old new : Outside) (words : List (List ℕ)) (s : Status) (a : Answer) (at : AtCert (source_of old new) (meaning words) a) → s ≡ status_of at.t
-    → Stopped old new at.t → HasNoCert (source_of old new) at.name at.t → Causes old new words s
-cert_stop old new words s a at is left (inl unread) =
-    rw (is ∙ ap status_of unread.0) (at_read old new words (Check at.file at.name) at.job left.silent
-    (at.name, unread.1, says old new at.t (stop.Read at.name) left unread.0, inr (at.k, went_on old new words a at)))
-cert_stop old new words s a at is left (inr (inl long)) =
-    rw (is ∙ ap status_of long.0) (at_certificate old new words (Check at.file at.name) at.job left.silent
-    (at.name, at.k, went_on old new words a at, inl (long.1, says old new at.t stop.LongCertificate left long.0)))
-cert_stop old new words s a at is left (inr (inr faulty)) =
-    rw (is ∙ ap status_of faulty.1) (at_certificate old new words (Check at.file at.name) at.job left.silent
-    (at.name, at.k, went_on old new words a at, inr (faulty.0, faulty.2, says old new at.t (stop.Certificate faulty.0) left faulty.1)))
+cert_fault : (old new : Outside) (words : List (List ℕ)) (s : Status) (a : Answer) (at : AtCert (source_of old new) (meaning words) a) → s ≡ status_of at.t
+    → EndsEarly old new at.t → HasNoCert (source_of old new) at.name at.t → CauseAt old new words s
+cert_fault old new words s a at is left (inl unread) =
+    rw (is ∙ ap status_of unread.0) (left.silent, (at.name, unread.1, says old new at.t (run_fault.Read at.name) left unread.0, inr (at.k, went_on old new words a at)))
+cert_fault old new words s a at is left (inr (inl long)) =
+    rw (is ∙ ap status_of long.0) (left.silent, (at.name, at.k, went_on old new words a at, inl (long.1, says old new at.t run_fault.LongCertificate left long.0)))
+cert_fault old new words s a at is left (inr (inr faulty)) =
+    rw (is ∙ ap status_of faulty.1) (left.silent, (at.name, at.k, went_on old new words a at, inr (faulty.0, faulty.2, says old new at.t (run_fault.Certificate faulty.0) left faulty.1)))
 
 allowed_of : (old new : Outside) (words : List (List ℕ)) (a : Answer) (o : Output) → a ≡ Ok o → Allowed (source_of old new) words a → Allowed (source_of old new) words (Ok o)
 allowed_of old new words a o is allowed = subst (λ v. Allowed (source_of old new) words v) is allowed
 
-text_made : (old new : Outside) (words : List (List ℕ)) (s : Status) (a : Answer) (job : Job) (text : List ℕ) → meaning words ≡ Ok job → a ≡ Ok (record { ends = Done; text = text })
-    → Allowed (source_of old new) words a → Goes old new s (record { ends = Done; text = text }) → Causes old new words s
-text_made old new words s a job text m is allowed (inl w) =
-    rw w.0 (at_done old new words job text m (allowed_of old new words a (record { ends = Done; text = text }) is allowed) w.1)
-text_made old new words s a job text m is allowed (inr c) =
-    rw c.0 (at_write old new words job (record { ends = Done; text = text }) m (allowed_of old new words a (record { ends = Done; text = text }) is allowed) c.1)
+quiet_of : (old new : Outside) (text : List ℕ) → Wrote old new text → Quiet old new
+quiet_of old new text wrote = (wrote.quiet, wrote.no_fault.0, wrote.no_fault.1)
 
-refusal_cause : (old new : Outside) (words : List (List ℕ)) (a : Answer) (at : AtRefusal (source_of old new) (meaning words) a) → Wrote old new (refused_text at.reason at.line)
-    → RefusalCause old new words
-refusal_cause old new words a at wrote =
-    (at.name, at.k, at.cert, at.reason, at.line, record { file = at.file; job = at.job; contest = at.contest }, at.read, at.refusal, wrote.whole)
+-- the text was cut short
+cut_at : (old new : Outside) (words : List (List ℕ)) (o : Output) → Allowed (source_of old new) words (Ok o) → CutShort old new o.text → CauseAt old new words Write
+cut_at old new words o allowed cut = (cut.rose, (o, allowed, cut.part), cut.line)
 
-refusal_made : (old new : Outside) (words : List (List ℕ)) (s : Status) (a : Answer) (at : AtRefusal (source_of old new) (meaning words) a) → Allowed (source_of old new) words a
-    → Goes old new s (record { ends = Refused; text = refused_text at.reason at.line }) → Causes old new words s
+text_made : (old new : Outside) (words : List (List ℕ)) (s : Status) (text : List ℕ) → Allowed (source_of old new) words (Ok (record { ends = Done; text = text }))
+    → Goes old new s (record { ends = Done; text = text }) → CauseAt old new words s
+text_made old new words s text allowed (inl w) = rw w.0 (quiet_of old new text w.1, (text, allowed, w.1.whole))
+text_made old new words s text allowed (inr c) = rw c.0 (cut_at old new words (record { ends = Done; text = text }) allowed c.1)
+
+refusal_made : (old new : Outside) (words : List (List ℕ)) (s : Status) (a : Answer) (at : AtRefusal (source_of old new) (meaning words) a)
+    → Allowed (source_of old new) words (Ok (record { ends = Refused; text = refused_text at.reason at.line }))
+    → Goes old new s (record { ends = Refused; text = refused_text at.reason at.line }) → CauseAt old new words s
 refusal_made old new words s a at allowed (inl w) =
-    rw w.0 (at_refused old new words (Check at.file at.name) (refused_text at.reason at.line) at.job w.1 (refusal_cause old new words a at w.1))
-refusal_made old new words s a at allowed (inr c) =
-    let o : Output = record { ends = Refused; text = refused_text at.reason at.line } in
-    rw c.0 (at_write old new words (Check at.file at.name) o at.job (allowed_of old new words a o at.is allowed) c.1)
+    let on : WentOn old new words at.name at.k = record { file = at.file; job = at.job; contest = at.contest; begun = at.begun } in
+    rw w.0 (quiet_of old new (refused_text at.reason at.line) w.1, (at.name, at.k, at.cert, at.reason, at.line, on, at.read, at.refusal, w.1.whole))
+refusal_made old new words s a at allowed (inr c) = rw c.0 (cut_at old new words (record { ends = Refused; text = refused_text at.reason at.line }) allowed c.1)
 
-job_causes : (old new : Outside) (words : List (List ℕ)) (s : Status) (a : Answer) (job : Job) → meaning words ≡ Ok job → Allowed (source_of old new) words a → Delivers old new a s
-    → JobShape (source_of old new) (meaning words) a → Causes old new words s
-job_causes old new words s a job m allowed d (inl at) =
+job_cause : (old new : Outside) (words : List (List ℕ)) (s : Status) (a : Answer) → Allowed (source_of old new) words a → Delivers old new a s → JobShape (source_of old new) (meaning words) a
+    → CauseAt old new words s
+job_cause old new words s a allowed d (inl at) =
     let e = delivered_err old new s a at.t at.is d in
-    ballot_stop old new words s job at.file at.t m at.named e.0 e.1 at.why
-job_causes old new words s a job m allowed d (inr (inl at)) =
+    ballots_fault old new words s at.file at.t at.named e.0 e.1 at.why at.begun
+job_cause old new words s a allowed d (inr (inl at)) =
     let e = delivered_err old new s a at.t at.is d in
-    cert_stop old new words s a at e.0 e.1 at.why
-job_causes old new words s a job m allowed d (inr (inr (inl at))) =
-    text_made old new words s a job at.text m at.is allowed (delivered_ok old new s a (record { ends = Done; text = at.text }) at.is d)
-job_causes old new words s a job m allowed d (inr (inr (inr at))) =
-    refusal_made old new words s a at allowed (delivered_ok old new s a (record { ends = Refused; text = refused_text at.reason at.line }) at.is d)
+    cert_fault old new words s a at e.0 e.1 at.why
+job_cause old new words s a allowed d (inr (inr (inl at))) =
+    let o : Output = record { ends = Done; text = at.text } in
+    text_made old new words s at.text (allowed_of old new words a o at.is allowed) (delivered_ok old new s a o at.is d)
+job_cause old new words s a allowed d (inr (inr (inr at))) =
+    let o : Output = record { ends = Refused; text = refused_text at.reason at.line } in
+    refusal_made old new words s a at (allowed_of old new words a o at.is allowed) (delivered_ok old new s a o at.is d)
 
 pub causes : (old new : Outside) (words : List (List ℕ)) (s : Status) → Ran old new words s → Causes old new words s
 causes old new words s ran = elim (shape (source_of old new) (meaning words) ran.answer ran.allowed) [
-  | inl f ↦ let d = delivered_err old new s ran.answer (stop.Words f.0) f.2 ran.delivered in rw d.0 (at_words old new words f.0 f.1 d.1)
+  | inl f ↦ let d = delivered_err old new s ran.answer (run_fault.Words f.0) f.2 ran.delivered in rw d.0 (at_words old new words f.0 f.1 f.3 d.1)
   | inr rest ↦ elim rest [
-    | inl none ↦ let d = delivered_err old new s ran.answer stop.Memory none.0 ran.delivered in rw d.0 (at_memory old new words none.1 d.1)
-    | inr job ↦ job_causes old new words s ran.answer job.0 job.1 ran.allowed ran.delivered job.2
+    | inl none ↦ let d = delivered_err old new s ran.answer run_fault.Memory none.0.0 ran.delivered in rw d.0 (at_memory old new words none.1 none.0.1 d.1)
+    | inr job ↦
+        job_at old new words s job.0 job.1 (begun_at (source_of old new) (meaning words) ran.answer job.2)
+        (job_cause old new words s ran.answer ran.allowed ran.delivered job.2)
   ]
 ]

@@ -12,20 +12,22 @@ use Rattle.margin_check.specs.declared.verdict.Reason.{Reason}
 use Rattle.margin_check.specs.declared.verdict.Verdict.{Verdict}
 use Rattle.margin_check.specs.declared.verdict.Verdict.TheVariants.{Valid, No}
 use Rattle.cert_text.specs.declared.limits.TheConstants.{LONGEST_TEXT}
-use Rattle.mov_run.specs.Allowed.{Answers, HasNoCert, IsCertFile, IsChecked, IsVerdict, OverCert}
-use Rattle.mov_run.specs.Checked.{ChecksOver, IsToldCert, SaysRefused, SaysValid, WritesVerdict}
-use Rattle.mov_run.specs.Ends.{EndsWith, IsRefused, IsUntroubled}
-use Rattle.mov_run.specs.Ran.{Outside, Ran, Stopped, line_of, source_of, status_of}
-use Rattle.mov_run.specs.Verdicts.{refused_text, status_after, valid_text, verdict_text}
+use Rattle.mov_run.specs.Jobs.{Answers, IsChecked, IsVerdict, OverCert}
+use Rattle.mov_run.specs.Inputs.{HasNoCert, IsCertFile}
+use Rattle.mov_run.specs.Promised.{ChecksOver, SaysRefused, SaysValid, WritesVerdict}
+use Rattle.mov_run.specs.Run.{IsToldCert, EndsWith, IsRefused, IsUntroubled, Outside, Ran, EndsEarly, source_of}
+use Rattle.mov_run.specs.RunFaults.{line_of}
+use Rattle.mov_run.specs.Status.{status_of, status_after}
+use Rattle.mov_run.specs.Verdicts.{refused_text, valid_text, verdict_text}
 use Rattle.mov_run.specs.declared.jobs.Job.TheVariants.{Check}
 use Rattle.mov_run.specs.declared.runs.Output.{Output}
 use Rattle.mov_run.specs.declared.runs.Status.{Status}
 use Rattle.mov_run.specs.declared.runs.Status.TheVariants.{Certificate, Read, Memory}
-use Rattle.mov_run.specs.declared.stops.Stop.{Stop}
-use Rattle.mov_run.specs.declared.stops.Stop.TheVariants as stop
+use Rattle.mov_run.specs.declared.run_faults.RunFault.{RunFault}
+use Rattle.mov_run.specs.declared.run_faults.RunFault.TheVariants as run_fault
 use Rattle.mov_run.proofs.BallotRefusals.{ends_with}
 use Rattle.mov_run.proofs.Delivered.{Goes, delivered_err, delivered_ok, done_by, memory_of, refused_by}
-use Rattle.mov_run.proofs.Told.{contest_answer, err_is, no_cert_stop, not_both, ok_or_err, same_cert}
+use Rattle.mov_run.proofs.Told.{both_answer, err_is, no_cert_stop, not_both, ok_or_err, same_cert}
 
 -- the output of a verdict
 abbrev output_of : Cert → Verdict → Output
@@ -35,15 +37,15 @@ output_of cert v = record { ends = status_after v; text = verdict_text cert v }
 abbrev AtCheck : Outside → Outside → Status → List ℕ → NamedPoll → Type 0
 AtCheck old new s name k =
     (s ≡ Memory)
-    ⊎ ((t : Stop) × (s ≡ status_of t) × Stopped old new t × HasNoCert (source_of old new) name t)
+    ⊎ ((t : RunFault) × (s ≡ status_of t) × EndsEarly old new t × HasNoCert (source_of old new) name t)
     ⊎ ((cert : Cert) × IsCertFile (source_of old new) name cert × ((v : Verdict) × IsVerdict k cert v × Goes old new s (output_of cert v)))
 
 at_check : (old new : Outside) (words : List (List ℕ)) (s : Status) (name : List ℕ) (k : NamedPoll) → Ran old new words s → ChecksOver old new words name k → AtCheck old new s name k
 at_check old new words s name k ran over = elim ran.allowed [
-  | inr m ↦ inl (memory_of old new s ran.answer m.0 ran.delivered)
+  | inr m ↦ inl (memory_of old new s ran.answer m.0.0 ran.delivered)
   | inl by ↦
       let answers : Answers (source_of old new) (Check over.file name) ran.answer = rw over.job at by in
-      elim (contest_answer old new over.file k (λ k a. OverCert (source_of old new) name (λ cert a. IsChecked k cert a) a) ran.answer over.contest over.reads answers) [
+      elim (both_answer old new over.file name k IsChecked ran.answer over.contest over.reads answers) [
         | inl stopped ↦
             let d = delivered_err old new s ran.answer stopped.0 stopped.1 ran.delivered in
             inr (inl (stopped.0, d.0, d.1, stopped.2))
@@ -105,43 +107,43 @@ is_refused old new s name k cert reason line at told untroubled refusal =
 
 -- ---- a text that is no certificate
 
-faulty_cert : (old new : Outside) (s : Status) (name bytes : List ℕ) (k : NamedPoll) (fault : CertFault) → AtCheck old new s name k → (Rose old.faults new.faults → ⊥) → Tells old.told name bytes
-    → length bytes ≤ LONGEST_TEXT → cert_at bytes ≡ Err fault → EndsWith old new s Certificate (line_of (stop.Certificate fault))
+faulty_cert : (old new : Outside) (s : Status) (name bytes : List ℕ) (k : NamedPoll) (fault : CertFault) → AtCheck old new s name k → (Rose old.files.faults new.files.faults → ⊥) → Tells old.files.told name bytes
+    → length bytes ≤ LONGEST_TEXT → cert_at bytes ≡ Err fault → EndsWith old new s Certificate (line_of (run_fault.Certificate fault))
 faulty_cert old new s name bytes k fault (inl memory) quiet tells short read = inr memory
 faulty_cert old new s name bytes k fault (inr (inr good)) quiet tells short read =
-    let same : good.1.bytes ≡ bytes = good.1.file.told bytes tells in
-    absurd (ok_or_err (cert_at bytes) good.0 fault (ap cert_at (sym same) ∙ good.1.read) read)
+    let same : good.1.bytes ≡ bytes = good.1.read.file.told bytes tells in
+    absurd (ok_or_err (cert_at bytes) good.0 fault (ap cert_at (sym same) ∙ good.1.said) read)
 faulty_cert old new s name bytes k fault (inr (inl stopped)) quiet tells short read = by stopped.0 stopped.1 stopped.2 stopped.3
   where
-    by : (t : Stop) → s ≡ status_of t → Stopped old new t → HasNoCert (source_of old new) name t → EndsWith old new s Certificate (line_of (stop.Certificate fault))
-    by t is left (inl unread) = absurd (elim unread.1.why [ inl rose ↦ quiet rose | inr lacks ↦ not_both old.told name bytes tells lacks ])
+    by : (t : RunFault) → s ≡ status_of t → EndsEarly old new t → HasNoCert (source_of old new) name t → EndsWith old new s Certificate (line_of (run_fault.Certificate fault))
+    by t is left (inl unread) = absurd (elim unread.1.why [ inl rose ↦ quiet rose | inr lacks ↦ not_both old.files.told name bytes tells lacks ])
     by t is left (inr (inl long)) = absurd (let lt = long.1.told bytes tells in omega arith)
     by t is left (inr (inr faulty)) =
-        let same : faulty.2.bytes ≡ bytes = faulty.2.file.told bytes tells in
-        let one : faulty.0 ≡ fault = err_is (cert_at bytes) faulty.0 fault (ap cert_at (sym same) ∙ faulty.2.read) read in
-        ends_with old new s t (stop.Certificate fault) Certificate is left (faulty.1 ∙ ap stop.Certificate one) refl
+        let same : faulty.2.bytes ≡ bytes = faulty.2.read.file.told bytes tells in
+        let one : faulty.0 ≡ fault = err_is (cert_at bytes) faulty.0 fault (ap cert_at (sym same) ∙ faulty.2.said) read in
+        ends_with old new s t (run_fault.Certificate fault) Certificate is left (faulty.1 ∙ ap run_fault.Certificate one) refl
 
-long_cert : (old new : Outside) (s : Status) (name bytes : List ℕ) (k : NamedPoll) → AtCheck old new s name k → (Rose old.faults new.faults → ⊥) → Tells old.told name bytes
-    → LONGEST_TEXT < length bytes → EndsWith old new s Certificate (line_of stop.LongCertificate)
+long_cert : (old new : Outside) (s : Status) (name bytes : List ℕ) (k : NamedPoll) → AtCheck old new s name k → (Rose old.files.faults new.files.faults → ⊥) → Tells old.files.told name bytes
+    → LONGEST_TEXT < length bytes → EndsWith old new s Certificate (line_of run_fault.LongCertificate)
 long_cert old new s name bytes k (inl memory) quiet tells more = inr memory
 long_cert old new s name bytes k (inr (inr good)) quiet tells more =
-    absurd (let same : good.1.bytes ≡ bytes = good.1.file.told bytes tells in let le : length bytes ≤ LONGEST_TEXT = rw (← same) good.1.file.within in omega arith)
+    absurd (let same : good.1.bytes ≡ bytes = good.1.read.file.told bytes tells in let le : length bytes ≤ LONGEST_TEXT = rw (← same) good.1.short in omega arith)
 long_cert old new s name bytes k (inr (inl stopped)) quiet tells more = by stopped.0 stopped.1 stopped.2 stopped.3
   where
-    by : (t : Stop) → s ≡ status_of t → Stopped old new t → HasNoCert (source_of old new) name t → EndsWith old new s Certificate (line_of stop.LongCertificate)
-    by t is left (inl unread) = absurd (elim unread.1.why [ inl rose ↦ quiet rose | inr lacks ↦ not_both old.told name bytes tells lacks ])
-    by t is left (inr (inl long)) = ends_with old new s t stop.LongCertificate Certificate is left long.0 refl
-    by t is left (inr (inr faulty)) = absurd (let same : faulty.2.bytes ≡ bytes = faulty.2.file.told bytes tells in let le : length bytes ≤ LONGEST_TEXT = rw (← same) faulty.2.file.within in omega arith)
+    by : (t : RunFault) → s ≡ status_of t → EndsEarly old new t → HasNoCert (source_of old new) name t → EndsWith old new s Certificate (line_of run_fault.LongCertificate)
+    by t is left (inl unread) = absurd (elim unread.1.why [ inl rose ↦ quiet rose | inr lacks ↦ not_both old.files.told name bytes tells lacks ])
+    by t is left (inr (inl long)) = ends_with old new s t run_fault.LongCertificate Certificate is left long.0 refl
+    by t is left (inr (inr faulty)) = absurd (let same : faulty.2.bytes ≡ bytes = faulty.2.read.file.told bytes tells in let le : length bytes ≤ LONGEST_TEXT = rw (← same) faulty.2.short in omega arith)
 
-absent_cert : (old new : Outside) (s : Status) (name : List ℕ) (k : NamedPoll) → AtCheck old new s name k → Lacks old.told name → EndsWith old new s Read (line_of (stop.Read name))
+absent_cert : (old new : Outside) (s : Status) (name : List ℕ) (k : NamedPoll) → AtCheck old new s name k → Lacks old.files.told name → EndsWith old new s Read (line_of (run_fault.Read name))
 absent_cert old new s name k (inl memory) lacks = inr memory
-absent_cert old new s name k (inr (inr good)) lacks = absurd (good.1.file.there lacks)
+absent_cert old new s name k (inr (inr good)) lacks = absurd (good.1.read.file.there lacks)
 absent_cert old new s name k (inr (inl stopped)) lacks = by stopped.0 stopped.1 stopped.2 stopped.3
   where
-    by : (t : Stop) → s ≡ status_of t → Stopped old new t → HasNoCert (source_of old new) name t → EndsWith old new s Read (line_of (stop.Read name))
-    by t is left (inl unread) = ends_with old new s t (stop.Read name) Read is left unread.0 refl
+    by : (t : RunFault) → s ≡ status_of t → EndsEarly old new t → HasNoCert (source_of old new) name t → EndsWith old new s Read (line_of (run_fault.Read name))
+    by t is left (inl unread) = ends_with old new s t (run_fault.Read name) Read is left unread.0 refl
     by t is left (inr (inl long)) = absurd (long.1.there lacks)
-    by t is left (inr (inr faulty)) = absurd (faulty.2.file.there lacks)
+    by t is left (inr (inr faulty)) = absurd (faulty.2.read.file.there lacks)
 
 -- ---- a text that is one
 
@@ -150,7 +152,7 @@ verdict_end old new s cert Valid (inl w) = (λ e. absurd (let is = w.0 in cc), �
 verdict_end old new s cert (No reason line) (inl w) = (λ e. absurd (let is = w.0 in cc), λ e. absurd (let is = w.0 in cc))
 verdict_end old new s cert v (inr c) = (λ e. absurd (let is = c.0 in cc), λ e. absurd (let is = c.0 in cc))
 
-accepted_cert : (old new : Outside) (s : Status) (name : List ℕ) (k : NamedPoll) (cert : Cert) → AtCheck old new s name k → (Rose old.faults new.faults → ⊥) → IsToldCert old name cert
+accepted_cert : (old new : Outside) (s : Status) (name : List ℕ) (k : NamedPoll) (cert : Cert) → AtCheck old new s name k → (Rose old.files.faults new.files.faults → ⊥) → IsToldCert old name cert
     → (s ≡ Certificate → ⊥) × (s ≡ Read → ⊥)
 accepted_cert old new s name k cert (inl memory) quiet told = (λ e. absurd (cc), λ e. absurd (cc))
 accepted_cert old new s name k cert (inr (inl stopped)) quiet told = absurd (no_cert_stop old new name cert stopped.0 told quiet stopped.3)

@@ -4,7 +4,7 @@ use Rattle.std.specs.Prelude.{Result, Ok, Err, OnOk, OnErr, IsErr}
 use Rattle.mov_edge.specs.Outside.{Counts, Rose, Took}
 use Rattle.mov_edge.specs.Loads.{TookFirst}
 use Rattle.mov_edge.proofs.Lines.{part_left, part_right, rose_from, rose_of, took_join}
-use Rattle.mov_run.specs.Ran.{Says, WritesAll}
+use Rattle.mov_run.specs.Run.{Says, WritesAll}
 
 pub writes_from : (o n : Option (List ℕ)) {T E : Type 0} (r : Result T E) (piece : List ℕ) (before now : ℕ) → OnOk r (Took o n piece) → OnErr r (TookFirst o n piece) → Counts before now r ⊥ → WritesAll o n before now r piece
 writes_from o n (Ok x) piece before now whole part counts = (whole, counts.kept)

@@ -6,9 +6,9 @@ use Rattle.ballot_form.specs.declared.rule.Rule.TheVariants.{Plurality}
 use Rattle.cert_text.specs.CertText.{CertText}
 use Rattle.cert_text.specs.declared.cert.Cert.{Cert}
 use Rattle.margin_solve.specs.Certificates.{IsCertOf}
-use Rattle.mov_run.specs.Allowed.{Answers}
+use Rattle.mov_run.specs.Jobs.{Answers, IsCertified, IsShown, IsTallied}
 use Rattle.mov_run.specs.Promised.{Promised, WritesMargin, WritesPlain, WritesTally}
-use Rattle.mov_run.specs.Ran.{Outside, Ran, source_of}
+use Rattle.mov_run.specs.Run.{Outside, Ran, source_of}
 use Rattle.mov_run.specs.Tally.{IsTally}
 use Rattle.mov_run.specs.declared.jobs.Job.TheVariants.{Tally, Margin, Show}
 use Rattle.mov_run.specs.declared.runs.Status.{Status}
@@ -17,32 +17,32 @@ use Rattle.mov_run.proofs.BallotRefusals.{refuses}
 use Rattle.mov_run.proofs.Causes.{causes}
 use Rattle.mov_run.proofs.CertChecks.{writes_verdict}
 use Rattle.mov_run.proofs.Delivered.{done_of, memory_of}
-use Rattle.mov_run.proofs.Told.{contest_answer}
+use Rattle.mov_run.proofs.Told.{ballots_answer}
 
 writes_margin : (old new : Outside) (words : List (List ℕ)) (s : Status) → Ran old new words s → WritesMargin old new words s
 writes_margin old new words s ran file k job told untroubled = elim ran.allowed [
-  | inr m ↦ absurd (untroubled.memory (memory_of old new s ran.answer m.0 ran.delivered))
+  | inr m ↦ absurd (untroubled.memory (memory_of old new s ran.answer m.0.0 ran.delivered))
   | inl by ↦
       let answers : Answers (source_of old new) (Margin Plurality file) ran.answer = rw job at by in
-      let made = contest_answer old new file k (λ k a. (cert : Cert) × (text : List ℕ) × IsCertOf k.poll cert × CertText text cert × (a ≡ Ok (record { ends = Done; text = text }))) ran.answer told untroubled.reads answers in
+      let made = ballots_answer old new file k IsCertified ran.answer told untroubled.reads answers in
       (made.0, made.1, made.2, made.3, done_of old new s ran.answer made.1 made.4 ran.delivered untroubled)
 ]
 
 writes_tally : (old new : Outside) (words : List (List ℕ)) (s : Status) → Ran old new words s → WritesTally old new words s
 writes_tally old new words s ran rule file k job told untroubled = elim ran.allowed [
-  | inr m ↦ absurd (untroubled.memory (memory_of old new s ran.answer m.0 ran.delivered))
+  | inr m ↦ absurd (untroubled.memory (memory_of old new s ran.answer m.0.0 ran.delivered))
   | inl by ↦
       let answers : Answers (source_of old new) (Tally rule file) ran.answer = rw job at by in
-      let made = contest_answer old new file k (λ k a. (text : List ℕ) × IsTally rule k text × (a ≡ Ok (record { ends = Done; text = text }))) ran.answer told untroubled.reads answers in
+      let made = ballots_answer old new file k (IsTallied rule) ran.answer told untroubled.reads answers in
       (made.0, made.1, done_of old new s ran.answer made.0 made.2 ran.delivered untroubled)
 ]
 
 writes_plain : (old new : Outside) (words : List (List ℕ)) (s : Status) → Ran old new words s → WritesPlain old new words s
 writes_plain old new words s ran file k job told untroubled = elim ran.allowed [
-  | inr m ↦ absurd (untroubled.memory (memory_of old new s ran.answer m.0 ran.delivered))
+  | inr m ↦ absurd (untroubled.memory (memory_of old new s ran.answer m.0.0 ran.delivered))
   | inl by ↦
       let answers : Answers (source_of old new) (Show file) ran.answer = rw job at by in
-      let made = contest_answer old new file k (λ k a. a ≡ Ok (record { ends = Done; text = plain_form k })) ran.answer told untroubled.reads answers in
+      let made = ballots_answer old new file k IsShown ran.answer told untroubled.reads answers in
       done_of old new s ran.answer (plain_form k) made ran.delivered untroubled
 ]
 

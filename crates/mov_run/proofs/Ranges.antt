@@ -1,10 +1,12 @@
 -- What is said of each of a row of numbers, one after another.
 use Rattle.std.proofs.Common.{ℕ, zero, suc, List, [], ◌∷◌, ◌++◌, ◌≡◌, ◌<◌, ◌≤◌, ◌+◌, ◌-◌, ◌∙◌, refl, sym, ap, arith, map, append-nil, append_assoc}
-use Rattle.std.specs.Prelude.{Result, Ok, Err, IfOk}
+use Rattle.std.specs.Prelude.{Result, Ok, Err, OnOk}
 use Rattle.std.specs.List.{flat_map, join_with_byte, range_with_len}
 use Rattle.std.proofs.lemmas.List.{flat_map_more}
 use Rattle.text_lines.specs.Words.{line_text}
-use Rattle.mov_run.specs.Tally.{for_each}
+use Rattle.ballot_form.specs.Ballots.{Poll}
+use Rattle.ballot_form.specs.declared.rule.Rule.{Rule}
+use Rattle.mov_run.specs.Tally.{AddsCount, IsCounted, for_each}
 
 range_more : (a n j : ℕ) → a + n ≡ j → range_with_len a (n + 1) ≡ range_with_len a n ++ j ∷ []
 range_more a zero j e = let same : a ≡ j = omega (arith, e) in rw same refl
@@ -45,13 +47,10 @@ line_in_pieces w words fields start one two three is1 is2 is3 =
     ∙ ap (λ t. start ++ t) (sym (join_both w words fields)) in
     is3 ∙ ap (λ t. t ++ 10 ∷ []) joined ∙ append_assoc start (join_with_byte 32 (w ∷ (words ++ fields))) (10 ∷ [])
 
--- a text in two parts
-pub two_parts : (a b none one two text : List ℕ) → none ≡ [] → one ≡ none ++ a → two ≡ one ++ b → text ≡ two → text ≡ a ++ b
-two_parts a b none one two text is0 is1 is2 is = is ∙ is2 ∙ ap (λ t. t ++ b) (is1 ∙ ap (λ t. t ++ a) is0)
-
-pub if_ok : {T E : Type 0} {P Q : T → Type 0} (r : Result T E) → ((x : T) → P x → Q x) → IfOk r P → IfOk r Q
-if_ok (Ok x) then is = then x is
-if_ok (Err e) then is = tt
+-- two parts were added to a text, the second where all went well
+pub adds_both : {T E : Type 0} (rule : Rule) (p : Poll) (a b old mid new : List ℕ) (r : Result T E) → IsCounted rule p (a ++ b) → mid ≡ old ++ a → OnOk r (new ≡ mid ++ b) → OnOk r (AddsCount rule p old new)
+adds_both rule p a b old mid new (Ok x) counted first last = (a ++ b, counted, last ∙ ap (λ t. t ++ b) first ∙ append_assoc old a b)
+adds_both rule p a b old mid new (Err e) counted first last = tt
 
 -- the same, up to a number
 pub each_next : (say : ℕ → List ℕ) (start out more : List ℕ) (a j : ℕ) → a ≤ j → out ≡ start ++ for_each a (j - a) say → more ≡ out ++ say j → more ≡ start ++ for_each a ((j + 1) - a) say

@@ -1,25 +1,25 @@
 -- How an answer looks.
-use Rattle.std.proofs.Common.{ℕ, List, ◌≡◌, ◌⊎◌, ◌∙◌, refl, sym, inl, inr}
+use Rattle.std.proofs.Common.{ℕ, List, ◌≡◌, ◌≤◌, ◌⊎◌, ◌∙◌, refl, sym, inl, inr, arith}
 use Rattle.std.specs.Prelude.{Result, Ok, Err}
 use Rattle.ballot_csv.specs.BallotFile.{NamedPoll}
 use Rattle.ballot_csv.specs.PlainForm.{plain_form}
-use Rattle.cert_text.specs.CertText.{CertText}
 use Rattle.cert_text.specs.declared.cert.Cert.{Cert}
 use Rattle.margin_check.specs.Verdicts.{IsRefusal}
 use Rattle.margin_check.specs.declared.verdict.Reason.{Reason}
 use Rattle.margin_check.specs.declared.verdict.Verdict.{Verdict}
 use Rattle.margin_check.specs.declared.verdict.Verdict.TheVariants.{Valid, No}
-use Rattle.margin_solve.specs.Certificates.{IsCertOf}
-use Rattle.mov_run.specs.Allowed.{Answer, Answers, AnswersWords, HasNoCert, HasNoContest, IsCertFile, IsChecked, IsContestFile, IsVerdict, OverCert, OverContest, Source}
-use Rattle.mov_run.specs.Tally.{IsTally}
-use Rattle.mov_run.specs.Verdicts.{refused_text, status_after, valid_text, verdict_text}
-use Rattle.mov_run.specs.Words.{BallotFile, IsNoCommand}
+use Rattle.mov_run.specs.Jobs.{Answer, Answers, AnswersWords, IsCertified, IsChecked, IsOutOfMemory, IsShown, IsTallied, IsVerdict, OverBallots, OverCert, OverContest}
+use Rattle.mov_run.specs.Inputs.{Began, BeganAtMost, HasNoCert, HasNoContest, IsCertFile, IsContestFile, IsReadContest, Source}
+use Rattle.mov_run.specs.Verdicts.{refused_text, valid_text, verdict_text}
+use Rattle.mov_run.specs.Status.{status_after}
+use Rattle.mov_run.specs.Words.{BallotFile, IsNoCommand, file_count}
 use Rattle.mov_run.specs.declared.jobs.Job.{Job}
 use Rattle.mov_run.specs.declared.jobs.Job.TheVariants.{Tally, Margin, Check, Show}
 use Rattle.mov_run.specs.declared.jobs.WordFault.{WordFault}
 use Rattle.mov_run.specs.declared.runs.Status.TheVariants.{Done, Refused}
-use Rattle.mov_run.specs.declared.stops.Stop.{Stop}
-use Rattle.mov_run.specs.declared.stops.Stop.TheVariants as stop
+use Rattle.mov_run.specs.declared.run_faults.RunFault.{RunFault}
+use Rattle.mov_run.specs.declared.run_faults.RunFault.TheVariants as run_fault
+use Rattle.mov_run.proofs.Told.{contest_of}
 
 -- ---- the answer of a job
 
@@ -27,9 +27,10 @@ use Rattle.mov_run.specs.declared.stops.Stop.TheVariants as stop
 pub record AtBallots (src : Source) (m : Result Job WordFault) (a : Answer) : Type 0 where
   pub file : List ℕ
   pub named : BallotFile m file
-  pub t : Stop
+  pub t : RunFault
   pub is : a ≡ Err t
   pub why : HasNoContest src file t
+  pub begun : Began src 1
 
 -- no certificate comes of its file
 pub record AtCert (src : Source) (m : Result Job WordFault) (a : Answer) : Type 0 where
@@ -38,7 +39,8 @@ pub record AtCert (src : Source) (m : Result Job WordFault) (a : Answer) : Type 
   pub k : NamedPoll
   pub job : m ≡ Ok (Check file name)
   pub contest : IsContestFile src file k
-  pub t : Stop
+  pub begun : Began src 2
+  pub t : RunFault
   pub is : a ≡ Err t
   pub why : HasNoCert src name t
 
@@ -48,6 +50,7 @@ pub record AtText (src : Source) (m : Result Job WordFault) (a : Answer) : Type 
   pub named : BallotFile m file
   pub k : NamedPoll
   pub contest : IsContestFile src file k
+  pub begun : BeganAtMost src (file_count m)
   pub text : List ℕ
   pub is : a ≡ Ok (record { ends = Done; text = text })
 
@@ -61,6 +64,7 @@ pub record AtRefusal (src : Source) (m : Result Job WordFault) (a : Answer) : Ty
   pub line : ℕ
   pub job : m ≡ Ok (Check file name)
   pub contest : IsContestFile src file k
+  pub begun : Began src 2
   pub read : IsCertFile src name cert
   pub refusal : IsRefusal k.poll cert reason line
   pub is : a ≡ Ok (record { ends = Refused; text = refused_text reason line })
@@ -69,18 +73,25 @@ abbrev pub JobShape : Source → Result Job WordFault → Answer → Type 0
 JobShape src m a = AtBallots src m a ⊎ AtCert src m a ⊎ AtText src m a ⊎ AtRefusal src m a
 
 contest_shape : (src : Source) (m : Result Job WordFault) (file : List ℕ) (next : NamedPoll → Answer → Type 0) (a : Answer) → BallotFile m file
-    → ((k : NamedPoll) → IsContestFile src file k → next k a → JobShape src m a) → OverContest src file next a → JobShape src m a
-contest_shape src m file next a named then (inl stopped) = inl (record { file = file; named = named; t = stopped.0; is = stopped.1; why = stopped.2 })
-contest_shape src m file next a named then (inr good) = then good.0 good.1 good.2
+    → ((k : NamedPoll) → next k a → JobShape src m a) → OverContest src file next a → JobShape src m a
+contest_shape src m file next a named then (inl stopped) = inl (record { file = file; named = named; t = stopped.0; is = stopped.1; why = stopped.2; begun = stopped.3 })
+contest_shape src m file next a named then (inr good) = then good.0 good.1
 
-text_shape : (src : Source) (m : Result Job WordFault) (file : List ℕ) (k : NamedPoll) (a : Answer) (text : List ℕ) → BallotFile m file → IsContestFile src file k
+text_shape : (src : Source) (m : Result Job WordFault) (file : List ℕ) (k : NamedPoll) (a : Answer) (text : List ℕ) → BallotFile m file → IsContestFile src file k → BeganAtMost src (file_count m)
     → a ≡ Ok (record { ends = Done; text = text }) → JobShape src m a
-text_shape src m file k a text named contest is = inr (inr (inl (record { file = file; named = named; k = k; contest = contest; text = text; is = is })))
+text_shape src m file k a text named contest begun is = inr (inr (inl (record { file = file; named = named; k = k; contest = contest; begun = begun; text = text; is = is })))
 
-verdict_shape : (src : Source) (file name : List ℕ) (k : NamedPoll) (cert : Cert) (a : Answer) (v : Verdict) → IsContestFile src file k → IsCertFile src name cert → IsVerdict k cert v
+-- a job with one file makes a text
+ballots_shape : (src : Source) (m : Result Job WordFault) (file : List ℕ) (next : NamedPoll → Answer → Type 0) (a : Answer) → BallotFile m file → 1 ≤ file_count m
+    → ((k : NamedPoll) → next k a → (text : List ℕ) × (a ≡ Ok (record { ends = Done; text = text }))) → OverBallots src file next a → JobShape src m a
+ballots_shape src m file next a named some made over =
+    contest_shape src m file (λ k a. IsReadContest src file k × Began src 1 × next k a) a named (λ k by. text_shape src m file k a (made k by.2).0 named (contest_of src file k by.0) (record { count = 1; within = some; begun = by.1 }) (made k by.2).1) over
+
+verdict_shape : (src : Source) (file name : List ℕ) (k : NamedPoll) (cert : Cert) (a : Answer) (v : Verdict) → IsContestFile src file k → Began src 2 → IsCertFile src name cert → IsVerdict k cert v
     → a ≡ Ok (record { ends = status_after v; text = verdict_text cert v }) → JobShape src (Ok (Check file name)) a
-verdict_shape src file name k cert a Valid contest read by is = text_shape src (Ok (Check file name)) file k a (valid_text cert) refl contest is
-verdict_shape src file name k cert a (No reason line) contest read by is = inr (inr (inr (record {
+verdict_shape src file name k cert a Valid contest begun read by is =
+    text_shape src (Ok (Check file name)) file k a (valid_text cert) refl contest (record { count = 2; within = omega arith; begun = begun }) is
+verdict_shape src file name k cert a (No reason line) contest begun read by is = inr (inr (inr (record {
   file = file;
   name = name;
   k = k;
@@ -89,53 +100,66 @@ verdict_shape src file name k cert a (No reason line) contest read by is = inr (
   line = line;
   job = refl;
   contest = contest;
+  begun = begun;
   read = read;
   refusal = (by.refused reason line).0 refl;
   is = is;
 })))
 
-cert_shape : (src : Source) (file name : List ℕ) (k : NamedPoll) (a : Answer) → IsContestFile src file k → OverCert src name (λ cert a. IsChecked k cert a) a
+cert_shape : (src : Source) (file name : List ℕ) (k : NamedPoll) (a : Answer) → IsContestFile src file k → Began src 2 → OverCert src name (λ cert a. IsChecked k cert a) a
     → JobShape src (Ok (Check file name)) a
-cert_shape src file name k a contest (inl stopped) = inr (inl (record {
+cert_shape src file name k a contest begun (inl stopped) = inr (inl (record {
   file = file;
   name = name;
   k = k;
   job = refl;
   contest = contest;
+  begun = begun;
   t = stopped.0;
   is = stopped.1;
   why = stopped.2;
 }))
-cert_shape src file name k a contest (inr good) = verdict_shape src file name k good.0 a good.2.0 contest good.1 good.2.1 good.2.2
+cert_shape src file name k a contest begun (inr good) = verdict_shape src file name k good.0 a good.2.0 contest begun good.1 good.2.1 good.2.2
 
 job_shape : (src : Source) (job : Job) (a : Answer) → Answers src job a → JobShape src (Ok job) a
-job_shape src (Tally rule file) a by =
-    contest_shape src (Ok (Tally rule file)) file (λ k a. (text : List ℕ) × IsTally rule k text × (a ≡ Ok (record { ends = Done; text = text }))) a refl
-    (λ k contest made. text_shape src (Ok (Tally rule file)) file k a made.0 refl contest made.2) by
-job_shape src (Margin rule file) a by =
-    contest_shape src (Ok (Margin rule file)) file (λ k a. (cert : Cert) × (text : List ℕ) × IsCertOf k.poll cert × CertText text cert × (a ≡ Ok (record { ends = Done; text = text }))) a refl
-    (λ k contest made. text_shape src (Ok (Margin rule file)) file k a made.1 refl contest made.4) by
+job_shape src (Tally rule file) a by = ballots_shape src (Ok (Tally rule file)) file (IsTallied rule) a refl (omega arith) (λ k made. (made.0, made.2)) by
+job_shape src (Margin rule file) a by = ballots_shape src (Ok (Margin rule file)) file IsCertified a refl (omega arith) (λ k made. (made.1, made.4)) by
 job_shape src (Check file name) a by =
-    contest_shape src (Ok (Check file name)) file (λ k a. OverCert src name (λ cert a. IsChecked k cert a) a) a refl
-    (λ k contest over. cert_shape src file name k a contest over) by
-job_shape src (Show file) a by =
-    contest_shape src (Ok (Show file)) file (λ k a. a ≡ Ok (record { ends = Done; text = plain_form k })) a refl
-    (λ k contest made. text_shape src (Ok (Show file)) file k a (plain_form k) refl contest made) by
+    contest_shape src (Ok (Check file name)) file (λ k a. IsContestFile src file k × Began src 2 × OverCert src name (λ cert a. IsChecked k cert a) a) a refl
+    (λ k over. cert_shape src file name k a over.0 over.1 over.2) by
+job_shape src (Show file) a by = ballots_shape src (Ok (Show file)) file IsShown a refl (omega arith) (λ k made. (plain_form k, made)) by
 
 -- ---- the answer to words
 
 abbrev pub Shape : Source → Result Job WordFault → Answer → Type 0
 Shape src m a =
-    ((f : WordFault) × (m ≡ Err f) × (a ≡ Err (stop.Words f)))
-    ⊎ ((a ≡ Err stop.Memory) × (IsNoCommand m → ⊥))
+    ((f : WordFault) × (m ≡ Err f) × (a ≡ Err (run_fault.Words f)) × Began src 0)
+    ⊎ (IsOutOfMemory src (file_count m) a × (IsNoCommand m → ⊥))
     ⊎ ((job : Job) × (m ≡ Ok job) × JobShape src m a)
 
-pub shape : (src : Source) (m : Result Job WordFault) (a : Answer) → AnswersWords src m a ⊎ ((a ≡ Err stop.Memory) × (IsNoCommand m → ⊥)) → Shape src m a
+pub shape : (src : Source) (m : Result Job WordFault) (a : Answer) → AnswersWords src m a ⊎ (IsOutOfMemory src (file_count m) a × (IsNoCommand m → ⊥)) → Shape src m a
 shape src (Ok job) a (inl by) = inr (inr (job, refl, job_shape src job a by))
-shape src (Err f) a (inl by) = inl (f, refl, by)
+shape src (Err f) a (inl by) = inl (f, refl, by.0, by.1)
 shape src m a (inr none) = inr (inl none)
 
 -- ---- the words of a job
+
+some_file : (m : Result Job WordFault) (file : List ℕ) → BallotFile m file → 1 ≤ file_count m
+some_file (Ok (Tally rule name)) file named = omega arith
+some_file (Ok (Margin rule name)) file named = omega arith
+some_file (Ok (Check name cert)) file named = omega arith
+some_file (Ok (Show name)) file named = omega arith
+some_file (Err f) file named = absurd named
+
+both_files : (m : Result Job WordFault) (file name : List ℕ) → m ≡ Ok (Check file name) → 2 ≤ file_count m
+both_files m file name is = rw is (omega arith)
+
+-- a job begins no more files than it has
+pub begun_at : (src : Source) (m : Result Job WordFault) (a : Answer) → JobShape src m a → BeganAtMost src (file_count m)
+begun_at src m a (inl at) = record { count = 1; within = some_file m at.file at.named; begun = at.begun }
+begun_at src m a (inr (inl at)) = record { count = 2; within = both_files m at.file at.name at.job; begun = at.begun }
+begun_at src m a (inr (inr (inl at))) = at.begun
+begun_at src m a (inr (inr (inr at))) = record { count = 2; within = both_files m at.file at.name at.job; begun = at.begun }
 
 pub one_ballot_file : (m : Result Job WordFault) (file other : List ℕ) → BallotFile m file → BallotFile m other → file ≡ other
 one_ballot_file (Ok (Tally rule name)) file other a b = a ∙ sym b

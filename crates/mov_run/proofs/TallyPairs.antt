@@ -1,13 +1,13 @@
 -- From the counts of pairs to their lines.
 use Rattle.std.proofs.Common.{ℕ, List, Option, Some, None, ◌≡◌, ◌++◌, ◌∙◌, ◌+◌, ◌-◌, refl, ap, arith}
+use Rattle.std.specs.Prelude.{Result, OnOk}
 use Rattle.ballot_form.specs.Ballots.{Poll}
 use Rattle.ballot_form.specs.declared.rule.Rule.TheVariants.{Condorcet}
 use Rattle.condorcet_count.specs.Preferences.{ArePrefs, Table, count_in, pref_of}
 use Rattle.condorcet_count.specs.Settlings.{IsReportedOutcome}
 use Rattle.goal_rows.specs.Outcomes.{IsReported}
-use Rattle.mov_run.specs.Counted.{condorcet_outcome_of}
-use Rattle.mov_run.specs.Tally.{IsCounted, pair_text, pairs_of, pairs_text, reported_text}
-use Rattle.mov_run.proofs.Ranges.{each_same}
+use Rattle.mov_run.specs.Tally.{condorcet_outcome_of, AddsCount, IsCounted, pair_text, pairs_of, pairs_text, reported_text}
+use Rattle.mov_run.proofs.Ranges.{adds_both, each_same}
 
 pair_same : (f h : ℕ → ℕ → ℕ) (x y : ℕ) → f x y ≡ h x y → f y x ≡ h y x → pair_text f x y ≡ pair_text h x y
 pair_same f h x y one other = rw (one, other) refl
@@ -22,7 +22,7 @@ reported_of : (p : Poll) (chosen : Option ℕ) → IsReportedOutcome p.c (pref_o
 reported_of p (Some x) is = is
 reported_of p None is = is
 
-pub pairs_counted : (p : Poll) (m : Table) (chosen : Option ℕ) (text : List ℕ) → ArePrefs p m → IsReportedOutcome p.c (pref_of p.ballots) chosen
+pairs_counted : (p : Poll) (m : Table) (chosen : Option ℕ) (text : List ℕ) → ArePrefs p m → IsReportedOutcome p.c (pref_of p.ballots) chosen
     → text ≡ pairs_text m.c (count_in m) ++ reported_text (condorcet_outcome_of chosen) → IsCounted Condorcet p text
 pairs_counted p m chosen text are is lines = record {
   count = pairs_text m.c (count_in m);
@@ -31,3 +31,8 @@ pairs_counted p m chosen text are is lines = record {
   reported = reported_of p chosen is;
   lines = lines;
 }
+
+pub pairs_added : {T E : Type 0} (p : Poll) (m : Table) (chosen : Option ℕ) (old mid new : List ℕ) (r : Result T E) → ArePrefs p m → IsReportedOutcome p.c (pref_of p.ballots) chosen
+    → mid ≡ old ++ pairs_text m.c (count_in m) → OnOk r (new ≡ mid ++ reported_text (condorcet_outcome_of chosen)) → OnOk r (AddsCount Condorcet p old new)
+pairs_added p m chosen old mid new r are is first last =
+    adds_both Condorcet p (pairs_text m.c (count_in m)) (reported_text (condorcet_outcome_of chosen)) old mid new r (pairs_counted p m chosen _ are is refl) first last

@@ -1,6 +1,6 @@
 -- From the reported order to the lines of its rounds.
 use Rattle.std.proofs.Common.{ℕ, List, [], ◌∷◌, None, ◌≡◌, ◌++◌, ◌<◌, ◌+◌, ◌∙◌, get_or, length, map, refl, sym, ap, arith}
-use Rattle.std.specs.Prelude.{Bool, codes, decimal}
+use Rattle.std.specs.Prelude.{Bool, Result, OnOk, codes, decimal}
 use Rattle.std.specs.List.{flat_map, join_with_byte, range_with_len}
 use Rattle.std.proofs.lemmas.List.Folds.{flat_map-map}
 use Rattle.ballot_form.specs.Ballots.{IsPoll, Poll}
@@ -10,8 +10,8 @@ use Rattle.irv_count.specs.Orders.{IsOrderBy, held_count, left_after, stands}
 use Rattle.irv_count.specs.Rounds.{AreBitsOf}
 use Rattle.irv_count.proofs.Holders.{held_by_bits}
 use Rattle.goal_rows.proofs.Reporting.{last_reported}
-use Rattle.mov_run.specs.Tally.{IsCounted, for_each, held_field, reported_text, round_of, round_text, rounds_text}
-use Rattle.mov_run.proofs.Ranges.{each_same, line_in_pieces, map_same}
+use Rattle.mov_run.specs.Tally.{AddsCount, IsCounted, for_each, held_field, reported_text, round_of, round_text, rounds_text}
+use Rattle.mov_run.proofs.Ranges.{adds_both, each_same, line_in_pieces, map_same}
 
 field_same : (s t : ℕ → Bool) (f h : ℕ → ℕ) (x : ℕ) → s x ≡ t x → f x ≡ h x → held_field s f x ≡ held_field t h x
 field_same s t f h x one other = rw (one, other) refl
@@ -24,7 +24,7 @@ round_same p order standing i out is set at =
     map_same (held_field (stands standing) (held_count (stands standing) p.ballots)) (held_field (left_after order i) (held_count (left_after order i) p.ballots)) 0 p.c (λ x lo hi. field_same (stands standing) (left_after order i) (held_count (stands standing) p.ballots) (held_count (left_after order i) p.ballots) x (set.bits x (omega (arith, hi))) (held_by_bits (left_after order i) p.c standing p.ballots x is.valid set)) in
     rw (fields, at) refl
 
-pub rounds_counted : (p : Poll) (order text : List ℕ) (x i : ℕ) → IsOrderBy None p order → i + 1 ≡ p.c → x ≡ get_or order i 0
+rounds_counted : (p : Poll) (order text : List ℕ) (x i : ℕ) → IsOrderBy None p order → i + 1 ≡ p.c → x ≡ get_or order i 0
     → text ≡ rounds_text p order ++ reported_text (Winner x) → IsCounted Irv p text
 rounds_counted p order text x i by last at lines = record {
   count = rounds_text p order;
@@ -33,6 +33,11 @@ rounds_counted p order text x i by last at lines = record {
   reported = rw at (last_reported p order i by last);
   lines = lines;
 }
+
+pub rounds_added : {T E : Type 0} (p : Poll) (order : List ℕ) (x i : ℕ) (old mid new : List ℕ) (r : Result T E) → IsOrderBy None p order → i + 1 ≡ p.c → x ≡ get_or order i 0
+    → mid ≡ old ++ rounds_text p order → OnOk r (new ≡ mid ++ reported_text (Winner x)) → OnOk r (AddsCount Irv p old new)
+rounds_added p order x i old mid new r by last at first then =
+    adds_both Irv p (rounds_text p order) (reported_text (Winner x)) old mid new r (rounds_counted p order _ x i by last at refl) first then
 
 -- the line of a round, in pieces
 pub round_in_pieces : (c : ℕ) (set : ℕ → Bool) (held : ℕ → ℕ) (counts : List ℕ) (i out : ℕ) (start one two three : List ℕ) → length counts ≡ c → ((x : ℕ) → x < c → get_or counts x 0 ≡ held x)

@@ -1,14 +1,14 @@
 -- From the scores to their lines.
 use Rattle.std.proofs.Common.{ℕ, List, ◌≡◌, ◌++◌, ◌∙◌, length, refl, sym, ap, subst, arith}
-use Rattle.std.specs.Prelude.{Result, IfOk, slice_index}
+use Rattle.std.specs.Prelude.{Result, OnOk, slice_index}
 use Rattle.ballot_form.specs.Ballots.{Poll}
 use Rattle.ballot_form.specs.Scores.{borda_points, plurality_points, score_of}
 use Rattle.ballot_form.specs.declared.outcome.Outcome.TheVariants.{Winner}
 use Rattle.ballot_form.specs.declared.rule.Rule.TheVariants.{Borda, Plurality}
 use Rattle.score_count.specs.Winners.{AreScores, IsScoreWinner}
 use Rattle.goal_rows.proofs.Reporting.{borda_winner, plurality_winner}
-use Rattle.mov_run.specs.Tally.{IsCounted, reported_text, score_text, scores_text}
-use Rattle.mov_run.proofs.Ranges.{each_same, if_ok}
+use Rattle.mov_run.specs.Tally.{AddsCount, IsCounted, reported_text, score_text, scores_text}
+use Rattle.mov_run.proofs.Ranges.{adds_both, each_same}
 
 score_same : (f h : ℕ → ℕ) (x : ℕ) → f x ≡ h x → score_text f x ≡ score_text h x
 score_same f h x same = rw same refl
@@ -38,12 +38,14 @@ borda_counted p scores text x are wins is = record {
   lines = is;
 }
 
-pub plurality_ok : {E : Type 0} (p : Poll) (list scores : List ℕ) (x : ℕ) (r : Result (List ℕ) E) → AreScores plurality_points p list → scores ≡ list → IsScoreWinner scores x
-    → IfOk r (λ text. text ≡ scores_text (length scores) (λ y. slice_index scores y) ++ reported_text (Winner x)) → IfOk r (λ text. IsCounted Plurality p text)
-plurality_ok p list scores x r are same wins is =
-    if_ok r (λ text lines. plurality_counted p scores text x (subst (λ xs. AreScores plurality_points p xs) (sym same) are) wins lines) is
+pub plurality_added : {T E : Type 0} (p : Poll) (list scores : List ℕ) (x : ℕ) (old mid new : List ℕ) (r : Result T E) → AreScores plurality_points p list → scores ≡ list → IsScoreWinner scores x
+    → mid ≡ old ++ scores_text (length scores) (λ y. slice_index scores y) → OnOk r (new ≡ mid ++ reported_text (Winner x)) → OnOk r (AddsCount Plurality p old new)
+plurality_added p list scores x old mid new r are same wins first last =
+    adds_both Plurality p (scores_text (length scores) (λ y. slice_index scores y)) (reported_text (Winner x)) old mid new r
+    (plurality_counted p scores _ x (subst (λ xs. AreScores plurality_points p xs) (sym same) are) wins refl) first last
 
-pub borda_ok : {E : Type 0} (p : Poll) (list scores : List ℕ) (x : ℕ) (r : Result (List ℕ) E) → AreScores (borda_points p.c) p list → scores ≡ list → IsScoreWinner scores x
-    → IfOk r (λ text. text ≡ scores_text (length scores) (λ y. slice_index scores y) ++ reported_text (Winner x)) → IfOk r (λ text. IsCounted Borda p text)
-borda_ok p list scores x r are same wins is =
-    if_ok r (λ text lines. borda_counted p scores text x (subst (λ xs. AreScores (borda_points p.c) p xs) (sym same) are) wins lines) is
+pub borda_added : {T E : Type 0} (p : Poll) (list scores : List ℕ) (x : ℕ) (old mid new : List ℕ) (r : Result T E) → AreScores (borda_points p.c) p list → scores ≡ list → IsScoreWinner scores x
+    → mid ≡ old ++ scores_text (length scores) (λ y. slice_index scores y) → OnOk r (new ≡ mid ++ reported_text (Winner x)) → OnOk r (AddsCount Borda p old new)
+borda_added p list scores x old mid new r are same wins first last =
+    adds_both Borda p (scores_text (length scores) (λ y. slice_index scores y)) (reported_text (Winner x)) old mid new r
+    (borda_counted p scores _ x (subst (λ xs. AreScores (borda_points p.c) p xs) (sym same) are) wins refl) first last

@@ -1,14 +1,14 @@
 -- From votes and seats to their lines.
 use Rattle.std.proofs.Common.{ℕ, List, ◌≡◌, ◌++◌, ◌<◌, ◌∙◌, length, refl, ap, arith}
-use Rattle.std.specs.Prelude.{slice_index}
+use Rattle.std.specs.Prelude.{Result, OnOk, slice_index}
 use Rattle.std.proofs.lemmas.List.FromFn.{get_or-map-range_with_len}
 use Rattle.ballot_form.specs.Ballots.{Poll}
 use Rattle.ballot_form.specs.Scores.{first_count}
 use Rattle.ballot_form.specs.declared.outcome.Outcome.TheVariants.{Seats}
 use Rattle.ballot_form.specs.declared.rule.Rule.TheVariants.{Dhondt}
 use Rattle.dhondt_seats.specs.Seats.{reported_seats, votes_of}
-use Rattle.mov_run.specs.Tally.{IsCounted, party_text, reported_text, seats_text}
-use Rattle.mov_run.proofs.Ranges.{each_same}
+use Rattle.mov_run.specs.Tally.{AddsCount, IsCounted, party_text, reported_text, seats_text}
+use Rattle.mov_run.proofs.Ranges.{adds_both, each_same}
 
 votes_at : (p : Poll) (a : ℕ) → a < p.c → slice_index (votes_of p) a ≡ first_count p.ballots a
 votes_at p a lt = get_or-map-range_with_len (first_count p.ballots) 0 p.c a a 0 lt (omega arith)
@@ -34,7 +34,9 @@ seats_counted p s votes shares text long votes_are shares_are lines = record {
 }
 
 -- the same, of what was counted and served and lent as slices
-pub seats_lent : (p : Poll) (s : ℕ) (counted votes served shares text : List ℕ) → length counted ≡ p.c → counted ≡ votes_of p → votes ≡ counted → served ≡ reported_seats votes s → shares ≡ served
-    → text ≡ seats_text (length votes) (λ a. slice_index votes a) (λ a. slice_index shares a) ++ reported_text (Seats shares) → IsCounted (Dhondt s) p text
-seats_lent p s counted votes served shares text long votes_are lent served_are lent_too lines =
-    seats_counted p s votes shares text (ap length lent ∙ long) (lent ∙ votes_are) (lent_too ∙ served_are) lines
+pub seats_added : {T E : Type 0} (p : Poll) (s : ℕ) (counted votes served shares old mid new : List ℕ) (r : Result T E) → length counted ≡ p.c → counted ≡ votes_of p → votes ≡ counted
+    → served ≡ reported_seats votes s → shares ≡ served → mid ≡ old ++ seats_text (length votes) (λ a. slice_index votes a) (λ a. slice_index shares a)
+    → OnOk r (new ≡ mid ++ reported_text (Seats shares)) → OnOk r (AddsCount (Dhondt s) p old new)
+seats_added p s counted votes served shares old mid new r long votes_are lent served_are lent_too first last =
+    adds_both (Dhondt s) p (seats_text (length votes) (λ a. slice_index votes a) (λ a. slice_index shares a)) (reported_text (Seats shares)) old mid new r
+    (seats_counted p s votes shares _ (ap length lent ∙ long) (lent ∙ votes_are) (lent_too ∙ served_are) refl) first last

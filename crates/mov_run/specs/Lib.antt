@@ -1,9 +1,10 @@
-pub mod Tally
-pub mod Counted
 pub mod Words
+pub mod Tally
 pub mod Verdicts
-pub mod Allowed
-pub mod Ran
-pub mod Ends
-pub mod Checked
+pub mod RunFaults
+pub mod Status
+pub mod Inputs
+pub mod Jobs
+pub mod Run
+pub mod Causes
 pub mod Promised

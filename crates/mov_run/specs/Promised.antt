@@ -1,28 +1,77 @@
--- What a run promises: what it leaves, and what follows from that.
-use Rattle.std.specs.Prelude.{◌≡◌, ◌⊎◌, ◌≤◌, ◌<◌, ℕ, List, codes, length, Ok, Err}
-use Rattle.mov_edge.specs.Loads.{TookFirst}
-use Rattle.mov_edge.specs.Outside.{Took, Tells, Lacks, Rose}
-use Rattle.ballot_csv.specs.BallotFile.{NamedPoll, read_of}
+-- What a run promises: what it leaves, and what follows from that for each command.
+use Rattle.std.specs.Prelude.{◌≡◌, ◌⊎◌, ◌<◌, ◌≤◌, ℕ, List, length, Ok, Err}
+use Rattle.mov_edge.specs.Outside.{Tells, Lacks, Rose}
+use Rattle.ballot_csv.specs.BallotFile.{IsFaulty, NamedPoll}
 use Rattle.ballot_csv.specs.PlainForm.{plain_form}
 use Rattle.ballot_csv.specs.declared.fault.BallotFault.{BallotFault}
 use Rattle.ballot_form.specs.declared.rule.Rule.{Rule}
-use Rattle.ballot_form.specs.declared.rule.Rule.TheVariants.{Plurality}
-use Rattle.ballot_csv.specs.declared.limits.TheConstants.{LONGEST_FILE}
-use Rattle.mov_run.specs.Allowed.{Allowed, IsFaultyFile, IsLong}
+use Rattle.cert_text.specs.CertReading.{cert_at}
 use Rattle.cert_text.specs.CertText.{CertText}
 use Rattle.margin_solve.specs.Certificates.{IsCertOf}
-use Rattle.mov_run.specs.Checked.{CertCause, ReadCause, RefusalCause, ValidCause, WritesVerdict, LacksCert}
-use Rattle.mov_run.specs.Ends.{EndsWith, IsDone, IsToldContest, IsUntroubled}
-use Rattle.mov_run.specs.Ran.{Outside, Ran, SaysLine, line_of, source_of}
+use Rattle.margin_check.specs.Meanings.{ClaimIsTrue}
+use Rattle.margin_check.specs.Validity.{IsValidCert}
+use Rattle.margin_check.specs.Verdicts.{IsJudged, IsRefusal}
+use Rattle.ballot_csv.specs.declared.limits.TheConstants.{LONGEST_FILE}
+use Rattle.cert_text.specs.declared.limits.TheConstants.{LONGEST_TEXT}
 use Rattle.mov_run.specs.Tally.{IsTally}
-use Rattle.mov_run.specs.Words.{BallotFile, IsNoCommand, meaning}
+use Rattle.mov_run.specs.Words.{meaning, BallotFile}
 use Rattle.cert_text.specs.declared.cert.Cert.{Cert}
-use Rattle.mov_run.specs.declared.jobs.Job.TheVariants.{Tally, Margin, Check, Show}
-use Rattle.mov_run.specs.declared.jobs.WordFault.{WordFault}
-use Rattle.mov_run.specs.declared.runs.Output.{Output}
+use Rattle.cert_text.specs.declared.fault.CertFault.{CertFault}
+use Rattle.margin_check.specs.declared.verdict.Reason.{Reason}
+use Rattle.mov_run.specs.Run.{EndsWith, IsDone, IsRefused, IsToldContest, IsUntroubled, Outside, Ran, IsToldCert}
+use Rattle.mov_run.specs.RunFaults.{line_of}
+use Rattle.mov_run.specs.Verdicts.{refused_text, valid_text}
 use Rattle.mov_run.specs.declared.runs.Status.{Status}
-use Rattle.mov_run.specs.declared.runs.Status.TheVariants.{Done, Bounds, Refused, Words, Ballots, Certificate, Read, Write, Memory}
-use Rattle.mov_run.specs.declared.stops.Stop.TheVariants as stop
+use Rattle.mov_run.specs.Causes.{Causes}
+use Rattle.ballot_form.specs.declared.rule.Rule.TheVariants.{Plurality}
+use Rattle.mov_run.specs.declared.jobs.Job.TheVariants.{Tally, Margin, Check, Show}
+use Rattle.mov_run.specs.declared.runs.Status.TheVariants.{Ballots, Certificate, Read}
+use Rattle.mov_run.specs.declared.run_faults.RunFault.TheVariants as run_fault
+
+-- ---- a check
+
+-- a check of a certificate file over a told and accepted ballot file, in which no read failed
+pub record ChecksOver (old new : Outside) (words : List (List ℕ)) (name : List ℕ) (k : NamedPoll) : Type 0 where
+  pub file : List ℕ
+  pub job : meaning words ≡ Ok (Check file name)
+  pub contest : IsToldContest old file k
+  pub reads : Rose old.files.faults new.files.faults → ⊥
+
+-- a valid certificate, whose claim is true, is said to be valid
+pub record SaysValid (old new : Outside) (s : Status) (k : NamedPoll) (cert : Cert) : Type 0 where
+  pub known : IsJudged cert.rule
+  pub valid : IsValidCert k.poll cert
+  pub claim : ClaimIsTrue k.poll cert
+  pub done : IsDone old new s (valid_text cert)
+
+-- the first part of validity that fails is named, with its line
+pub record SaysRefused (old new : Outside) (s : Status) (k : NamedPoll) (cert : Cert) : Type 0 where
+  pub reason : Reason
+  pub line : ℕ
+  pub refusal : IsRefusal k.poll cert reason line
+  pub refused : IsRefused old new s (refused_text reason line)
+
+-- what `check` of a told certificate file writes
+pub record WritesVerdict (old new : Outside) (words : List (List ℕ)) (s : Status) : Type 0 where
+  -- a certificate is said to be valid, or refused
+  pub judged : (name : List ℕ) (k : NamedPoll) (cert : Cert) → ChecksOver old new words name k → IsToldCert old name cert → IsUntroubled old new s →
+      SaysValid old new s k cert ⊎ SaysRefused old new s k cert
+  -- a valid one is said to be valid, as far as its rule is known
+  pub valid : (name : List ℕ) (k : NamedPoll) (cert : Cert) → ChecksOver old new words name k → IsToldCert old name cert → IsUntroubled old new s →
+      IsJudged cert.rule → IsValidCert k.poll cert → SaysValid old new s k cert
+  -- one that isn't is refused for the first reason, with its line
+  pub refused : (name : List ℕ) (k : NamedPoll) (cert : Cert) → ChecksOver old new words name k → IsToldCert old name cert → IsUntroubled old new s →
+      (reason : Reason) (line : ℕ) → IsRefusal k.poll cert reason line → IsRefused old new s (refused_text reason line)
+  -- a text that is no certificate is told its first fault
+  pub faulty : (name bytes : List ℕ) (k : NamedPoll) (fault : CertFault) → ChecksOver old new words name k → Tells old.files.told name bytes → length bytes ≤ LONGEST_TEXT →
+      cert_at bytes ≡ Err fault → EndsWith old new s Certificate (line_of (run_fault.Certificate fault))
+  pub long : (name bytes : List ℕ) (k : NamedPoll) → ChecksOver old new words name k → Tells old.files.told name bytes → LONGEST_TEXT < length bytes →
+      EndsWith old new s Certificate (line_of run_fault.LongCertificate)
+  pub absent : (name : List ℕ) (k : NamedPoll) → ChecksOver old new words name k → Lacks old.files.told name → EndsWith old new s Read (line_of (run_fault.Read name))
+  -- and where it is one, the run ends neither with its fault nor with a file unread
+  pub accepted : (name : List ℕ) (k : NamedPoll) (cert : Cert) → ChecksOver old new words name k → IsToldCert old name cert → (s ≡ Certificate → ⊥) × (s ≡ Read → ⊥)
+
+-- ---- the other commands
 
 -- the headline: `margin plurality` of a told and accepted file writes the certificate of its contest
 abbrev pub WritesMargin : Outside → Outside → List (List ℕ) → Status → Type 0
@@ -42,52 +91,20 @@ WritesPlain old new words s =
     (file : List ℕ) (k : NamedPoll) → meaning words ≡ Ok (Show file) → IsToldContest old file k → IsUntroubled old new s →
     IsDone old new s (plain_form k)
 
+-- the job has a certificate file, and it is known to be absent
+abbrev pub LacksCert : Outside → List (List ℕ) → Type 0
+LacksCert old words = (file : List ℕ) × (name : List ℕ) × (meaning words ≡ Ok (Check file name)) × Lacks old.files.told name
+
 -- a job whose ballot file is told and not accepted ends with what is wrong with the file
 pub record RefusesBallots (old new : Outside) (words : List (List ℕ)) (s : Status) : Type 0 where
-  pub faulty : (file bytes : List ℕ) (fault : BallotFault) → BallotFile (meaning words) file → Tells old.told file bytes → (Rose old.faults new.faults → ⊥) →
-      length bytes ≤ LONGEST_FILE → read_of bytes ≡ Err fault → EndsWith old new s Ballots (line_of (stop.Ballots fault))
-  pub long : (file bytes : List ℕ) → BallotFile (meaning words) file → Tells old.told file bytes → (Rose old.faults new.faults → ⊥) →
-      LONGEST_FILE < length bytes → EndsWith old new s Ballots (line_of stop.Long)
-  pub absent : (file : List ℕ) → BallotFile (meaning words) file → Lacks old.told file → (Rose old.faults new.faults → ⊥) →
-      EndsWith old new s Read (line_of (stop.Read file))
-  pub accepted : (file : List ℕ) (k : NamedPoll) → BallotFile (meaning words) file → IsToldContest old file k → (Rose old.faults new.faults → ⊥) →
+  pub faulty : (file bytes : List ℕ) (fault : BallotFault) → BallotFile (meaning words) file → Tells old.files.told file bytes → (Rose old.files.faults new.files.faults → ⊥) →
+      IsFaulty bytes fault → EndsWith old new s Ballots (line_of (run_fault.Ballots fault))
+  pub long : (file bytes : List ℕ) → BallotFile (meaning words) file → Tells old.files.told file bytes → (Rose old.files.faults new.files.faults → ⊥) →
+      LONGEST_FILE < length bytes → EndsWith old new s Ballots (line_of run_fault.Long)
+  pub absent : (file : List ℕ) → BallotFile (meaning words) file → Lacks old.files.told file → (Rose old.files.faults new.files.faults → ⊥) →
+      EndsWith old new s Read (line_of (run_fault.Read file))
+  pub accepted : (file : List ℕ) (k : NamedPoll) → BallotFile (meaning words) file → IsToldContest old file k → (Rose old.files.faults new.files.faults → ⊥) →
       (s ≡ Ballots → ⊥) × (s ≡ Read → LacksCert old words)
-
--- the statuses of a run that stopped before the writing
-abbrev pub IsStop : Status → Type 0
-IsStop Done = ⊥
-IsStop Bounds = ⊥
-IsStop Refused = ⊥
-IsStop Write = ⊥
-IsStop s = Unit {0}
-
--- the statuses of a run that wrote its whole text
-abbrev pub IsWritten : Status → Type 0
-IsWritten Done = Unit {0}
-IsWritten Bounds = Unit {0}
-IsWritten Refused = Unit {0}
-IsWritten s = ⊥
-
--- each status and its cause
-pub record Causes (old new : Outside) (words : List (List ℕ)) (s : Status) : Type 0 where
-  pub words_only : s ≡ Words → (fault : WordFault) × (meaning words ≡ Err fault) × SaysLine old new (line_of (stop.Words fault))
-  pub words_come : (fault : WordFault) → meaning words ≡ Err fault → EndsWith old new s Words (line_of (stop.Words fault))
-  pub no_command : IsNoCommand (meaning words) → s ≡ Words
-  pub ballots : s ≡ Ballots → (file : List ℕ) × BallotFile (meaning words) file
-      × ((IsLong (source_of old new) file LONGEST_FILE × SaysLine old new (line_of stop.Long))
-      ⊎ ((fault : BallotFault) × IsFaultyFile (source_of old new) file fault × SaysLine old new (line_of (stop.Ballots fault))))
-  pub certificate : s ≡ Certificate → CertCause old new words
-  pub read : s ≡ Read → ReadCause old new words
-  pub write : s ≡ Write → Rose old.out.faults new.out.faults
-      × ((output : Output) × Allowed (source_of old new) words (Ok output) × TookFirst old.out.taken new.out.taken output.text)
-      × SaysLine old new (codes "mov: write failed\n")
-  pub memory : s ≡ Memory → SaysLine old new (line_of stop.Memory)
-  pub silent : IsStop s → new.out ≡ old.out
-  pub quiet : IsWritten s → (new.err ≡ old.err) × (new.faults ≡ old.faults) × (new.out.faults ≡ old.out.faults)
-  pub done : s ≡ Done → (text : List ℕ) × Allowed (source_of old new) words (Ok (record { ends = Done; text = text })) × Took old.out.taken new.out.taken text
-  pub valid : s ≡ Done → (file name : List ℕ) → meaning words ≡ Ok (Check file name) → ValidCause old new words name
-  pub refused : s ≡ Refused → RefusalCause old new words
-  pub no_bounds : s ≡ Bounds → ⊥
 
 pub record Promised (old new : Outside) (words : List (List ℕ)) (s : Status) : Type 0 where
   pub ran : Ran old new words s

@@ -1,10 +1,11 @@
 -- The text of a tally: the rule, the sizes, the names, what was counted, and the reported outcome.
-use Rattle.std.specs.Prelude.{◌≡◌, ℕ, ◌+◌, ◌-◌, Bool, List, [], ◌∷◌, ◌++◌, None, codes, decimal, if◌then◌else◌, length, map, slice_index, slice_index_or}
+use Rattle.std.specs.Prelude.{◌≡◌, ℕ, ◌+◌, ◌-◌, Bool, List, [], ◌∷◌, ◌++◌, None, codes, decimal, Option, Some, if◌then◌else◌, length, map, slice_index, slice_index_or}
 use Rattle.std.specs.List.{flat_map, range_with_len}
 use Rattle.ballot_csv.specs.BallotFile.{NamedPoll}
 use Rattle.ballot_form.specs.Ballots.{Poll}
 use Rattle.ballot_form.specs.Scores.{borda_points, first_count, plurality_points, score_of}
 use Rattle.ballot_form.specs.declared.outcome.Outcome.{Outcome}
+use Rattle.ballot_form.specs.declared.outcome.Outcome.TheVariants.{NoWinner, Winner}
 use Rattle.ballot_form.specs.declared.rule.Rule.{Rule}
 use Rattle.ballot_form.specs.declared.rule.Rule.TheVariants.{Plurality, Borda, Condorcet, Dhondt, Irv}
 use Rattle.condorcet_count.specs.Preferences.{pref_of}
@@ -95,6 +96,10 @@ pub record IsCounted (rule : Rule) (p : Poll) (text : List ℕ) : Type 0 where
   pub reported : IsReported rule p outcome
   pub lines : text ≡ count ++ reported_text outcome
 
+-- the lines of the count and of the reported outcome were added to a text
+abbrev pub AddsCount : Rule → Poll → List ℕ → List ℕ → Type 0
+AddsCount rule p old new = (text : List ℕ) × IsCounted rule p text × (new ≡ old ++ text)
+
 -- the lines above the count
 abbrev pub head_text : Rule → NamedPoll → List ℕ
 head_text rule k = rule_text rule ++ (line_text (codes "size" ∷ decimal k.poll.c ∷ decimal (length k.poll.ballots) ∷ []) ++ names_text k.names)
@@ -104,3 +109,8 @@ pub record IsTally (rule : Rule) (k : NamedPoll) (text : List ℕ) : Type 0 wher
   pub rest : List ℕ
   pub counted : IsCounted rule k.poll rest
   pub lines : text ≡ head_text rule k ++ rest
+
+-- the outcome under Condorcet: who is chosen in all pairs, or nobody
+abbrev pub condorcet_outcome_of : Option ℕ → Outcome
+condorcet_outcome_of (Some x) = Winner x
+condorcet_outcome_of None = NoWinner

@@ -1,15 +1,13 @@
--- The text of a verdict on a certificate, and the status that it ends with.
-use Rattle.std.specs.Prelude.{ℕ, List, [], ◌∷◌, ◌++◌, codes, decimal}
+-- The text of a verdict on a certificate.
+use Rattle.std.specs.Prelude.{ℕ, List, codes, ◌++◌, decimal, [], ◌∷◌}
+use Rattle.cert_text.specs.declared.cert.Cert.{Cert}
+use Rattle.margin_check.specs.declared.verdict.Verdict.{Verdict}
+use Rattle.margin_check.specs.declared.verdict.Reason.{Reason}
 use Rattle.text_lines.specs.Words.{line_text}
 use Rattle.cert_text.specs.CertText.{claim_words}
-use Rattle.cert_text.specs.declared.cert.Cert.{Cert}
 use Rattle.margin_check.specs.Verdicts.{reason_name, reason_number}
-use Rattle.margin_check.specs.declared.verdict.Reason.{Reason}
-use Rattle.margin_check.specs.declared.verdict.Verdict.{Verdict}
-use Rattle.margin_check.specs.declared.verdict.Verdict.TheVariants.{Valid, No}
 use Rattle.mov_run.specs.Tally.{rule_text}
-use Rattle.mov_run.specs.declared.runs.Status.{Status}
-use Rattle.mov_run.specs.declared.runs.Status.TheVariants.{Done, Refused}
+use Rattle.margin_check.specs.declared.verdict.Verdict.TheVariants.{Valid, No}
 
 -- what is said of a valid certificate: its rule and its claim
 abbrev pub valid_text : Cert → List ℕ
@@ -23,8 +21,3 @@ refused_text reason line = line_text (codes "REFUSED" ∷ decimal (reason_number
 abbrev pub verdict_text : Cert → Verdict → List ℕ
 verdict_text cert Valid = valid_text cert
 verdict_text cert (No reason line) = refused_text reason line
-
--- the status of a run that wrote it whole
-abbrev pub status_after : Verdict → Status
-status_after Valid = Done
-status_after (No reason line) = Refused

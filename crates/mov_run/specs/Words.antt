@@ -119,3 +119,11 @@ BallotFile (Ok (Margin rule file)) name = name ≡ file
 BallotFile (Ok (Check file cert)) name = name ≡ file
 BallotFile (Ok (Show file)) name = name ≡ file
 BallotFile (Err fault) name = ⊥
+
+-- how many files the job reads
+abbrev pub file_count : Result Job WordFault → ℕ
+file_count (Ok (Tally rule file)) = 1
+file_count (Ok (Margin rule file)) = 1
+file_count (Ok (Check file cert)) = 2
+file_count (Ok (Show file)) = 1
+file_count (Err fault) = 0

@@ -6,21 +6,22 @@
 //! certificates and their checker, and on the crates that count and define the margin.
 #![tactic(auto)]
 
-mod checks;
+mod answers;
 mod jobs;
 mod laws;
 mod loads;
 mod rules;
+mod run_faults;
 mod runs;
-mod stops;
 mod tally;
 mod tally_pairs;
 mod tally_rounds;
 mod tally_scores;
 mod tally_seats;
+mod verdicts;
 
 pub use jobs::{Job, WordFault, parse};
 pub use laws::a_tally_is_one_text;
+pub use run_faults::RunFault;
 pub use runs::{Output, Status, run};
-pub use stops::Stop;
 pub use tally::tally_text;

@@ -1,27 +1,19 @@
 // The top call.
 ghost use Rattle.std.specs.Prelude.{◌≡◌, ◌⊎◌, map, string_bytes, IfOk, Err};
-ghost use Rattle.ballot_form.specs.Rules.{IsRule};
-ghost use Rattle.mov_run.specs.Allowed.{Allowed, AnswersOrMemory};
-ghost use Rattle.mov_run.specs.Ran.{Ran, Sent, status_number, status_of};
+ghost use Rattle.mov_run.specs.Jobs.{Allowed};
+ghost use Rattle.mov_run.specs.Inputs.{found, shelf};
+ghost use Rattle.mov_run.specs.Run.{Ran, Sent, drain, outside};
+ghost use Rattle.mov_run.specs.Status.{status_number, status_of};
 ghost use Rattle.mov_run.specs.Promised.{Promised};
 ghost use Rattle.mov_run.specs.Words.{meaning};
 ghost use Rattle.mov_run.specs.declared.jobs.WordFault.{WordFault as AFault};
 
-use crate::checks::check_answer;
+use crate::answers::{check_answer, margin_answer, show_answer, tally_answer};
 use crate::jobs::{Job, WordFault, parse};
-use crate::loads::load_contest;
-use crate::stops::{Stop, say, say_line};
-use crate::tally::tally_text;
-use ballot_csv::print_ballots;
-use ballot_form::{Rule, Text};
-use cert_text::print_cert;
-use margin_solve::margin;
+use crate::run_faults::{RunFault, say, say_line};
 use mov_base::List;
 use mov_edge::{Files, Sink, write_whole};
 use std::alloc::Global;
-
-/// The most nodes of a tree that a search may grow.
-const BUDGET: u32 = 20_000;
 
 /// How a run ended.
 #[derive(Clone, Copy, Debug, Drop)]
@@ -81,8 +73,10 @@ pub fn run<F: Files, O: Sink, E: Sink>(
     err: &mut E,
 ) -> Status
     ensures { Promised
-        (record { told = F.told files.old; at = F.at files.old; faults = F.faults files.old; out = record { taken = O.taken out.old; faults = O.faults out.old }; err = record { taken = E.taken err.old; faults = E.faults err.old } })
-        (record { told = F.told files.new; at = F.at files.new; faults = F.faults files.new; out = record { taken = O.taken out.new; faults = O.faults out.new }; err = record { taken = E.taken err.new; faults = E.faults err.new } })
+        (outside (shelf F.told F.at F.begun F.faults files.old)
+        (drain O.taken O.faults out.old) (drain E.taken E.faults err.old))
+        (outside (shelf F.told F.at F.begun F.faults files.new)
+        (drain O.taken O.faults out.new) (drain E.taken E.faults err.new))
         (map string_bytes words.now) result }
 {
     work(alloc, words, files, out, err)
@@ -97,36 +91,38 @@ fn work<F: Files, O: Sink, E: Sink>(
     err: &mut E,
 ) -> Status
     ensures { Ran
-        (record { told = F.told files.old; at = F.at files.old; faults = F.faults files.old; out = record { taken = O.taken out.old; faults = O.faults out.old }; err = record { taken = E.taken err.old; faults = E.faults err.old } })
-        (record { told = F.told files.new; at = F.at files.new; faults = F.faults files.new; out = record { taken = O.taken out.new; faults = O.faults out.new }; err = record { taken = E.taken err.new; faults = E.faults err.new } })
+        (outside (shelf F.told F.at F.begun F.faults files.old)
+        (drain O.taken O.faults out.old) (drain E.taken E.faults err.old))
+        (outside (shelf F.told F.at F.begun F.faults files.new)
+        (drain O.taken O.faults out.new) (drain E.taken E.faults err.new))
         (map string_bytes words.now) result }
 {
     match answer(alloc, words, files) {
         Ok(output) => deliver(&output, out, err),
-        Err(stop) => {
-            say(err, &stop);
-            ending(&stop)
+        Err(fault) => {
+            say(err, &fault);
+            ending(&fault)
         }
     }
 }
 
 /// The status of a run that stopped.
-fn ending(stop: &Stop) -> Status
-    ensures { result ≡ status_of stop.now }
+fn ending(fault: &RunFault) -> Status
+    ensures { result ≡ status_of fault.now }
 {
-    match stop {
-        Stop::Words(_) => Status::Words,
-        Stop::Ballots(_) | Stop::Long => Status::Ballots,
-        Stop::Certificate(_) | Stop::LongCertificate => Status::Certificate,
-        Stop::Read { .. } => Status::Read,
-        Stop::Memory => Status::Memory,
+    match fault {
+        RunFault::Words(_) => Status::Words,
+        RunFault::Ballots(_) | RunFault::Long => Status::Ballots,
+        RunFault::Certificate(_) | RunFault::LongCertificate => Status::Certificate,
+        RunFault::Read { .. } => Status::Read,
+        RunFault::Memory => Status::Memory,
     }
 }
 
 /// Writes the text.
 fn deliver<O: Sink, E: Sink>(output: &Output, out: &mut O, err: &mut E) -> Status
-    ensures { Sent output.now (record { taken = O.taken out.old; faults = O.faults out.old }) (record { taken = O.taken out.new; faults = O.faults out.new })
-        (record { taken = E.taken err.old; faults = E.faults err.old }) (record { taken = E.taken err.new; faults = E.faults err.new }) result }
+    ensures { Sent output.now (drain O.taken O.faults out.old) (drain O.taken O.faults out.new)
+        (drain E.taken E.faults err.old) (drain E.taken E.faults err.new) result }
 {
     match write_whole(out, output.text.as_slice()) {
         Ok(()) => output.ends,
@@ -138,9 +134,11 @@ fn deliver<O: Sink, E: Sink>(output: &Output, out: &mut O, err: &mut E) -> Statu
 }
 
 /// The answer to the words.
-fn answer<F: Files>(alloc: Global, words: &[String], files: &mut F) -> Result<Output, Stop>
-    ensures allowed { Allowed (record { told = F.told files.old; at = F.at files.new; before = F.faults files.old; now = F.faults files.new }) (map string_bytes words.now) result }
-    ensures untouched { (fault : AFault) → meaning (map string_bytes words.now) ≡ Err fault → (F.at files.new ≡ F.at files.old) × (F.faults files.new ≡ F.faults files.old) }
+fn answer<F: Files>(alloc: Global, words: &[String], files: &mut F) -> Result<Output, RunFault>
+    ensures allowed { Allowed
+        (found F.told F.at F.begun F.faults files.old files.new) (map string_bytes words.now) result }
+    ensures untouched { (fault : AFault) → meaning (map string_bytes words.now) ≡ Err fault
+        → shelf F.told F.at F.begun F.faults files.new ≡ shelf F.told F.at F.begun F.faults files.old }
     ensures told { F.told files.new ≡ F.told files.old }
     ensures kept { IfOk result (λ _. F.faults files.new ≡ F.faults files.old) }
 {
@@ -149,53 +147,7 @@ fn answer<F: Files>(alloc: Global, words: &[String], files: &mut F) -> Result<Ou
         Ok(Job::Margin { rule: _, file }) => margin_answer(alloc, &file, files),
         Ok(Job::Check { file, cert }) => check_answer(alloc, &file, &cert, files),
         Ok(Job::Show { file }) => show_answer(alloc, &file, files),
-        Err(WordFault::Memory) => Err(Stop::Memory),
-        Err(fault) => Err(Stop::Words(fault)),
+        Err(WordFault::Memory) => Err(RunFault::Memory),
+        Err(fault) => Err(RunFault::Words(fault)),
     }
-}
-
-/// The tally of the contest in a ballot file.
-fn tally_answer<F: Files>(
-    alloc: Global,
-    rule: Rule,
-    file: &Text,
-    files: &mut F,
-) -> Result<Output, Stop>
-    requires { IsRule rule }
-    ensures answers { AnswersOrMemory (record { told = F.told files.old; at = F.at files.new; before = F.faults files.old; now = F.faults files.new }) (Job.Tally rule file.now) result }
-    ensures told { F.told files.new ≡ F.told files.old }
-    ensures kept { IfOk result (λ _. F.faults files.new ≡ F.faults files.old) }
-{
-    let contest = load_contest(alloc, files, file)?;
-    Ok(Output {
-        ends: Status::Done,
-        text: List::from_vec(tally_text(alloc, &contest, rule)?),
-    })
-}
-
-/// The certificate of the contest in a ballot file.
-fn margin_answer<F: Files>(alloc: Global, file: &Text, files: &mut F) -> Result<Output, Stop>
-    ensures answers { AnswersOrMemory (record { told = F.told files.old; at = F.at files.new; before = F.faults files.old; now = F.faults files.new }) (Job.Margin Rule.Plurality file.now) result }
-    ensures told { F.told files.new ≡ F.told files.old }
-    ensures kept { IfOk result (λ _. F.faults files.new ≡ F.faults files.old) }
-{
-    let contest = load_contest(alloc, files, file)?;
-    let cert = margin(alloc, &contest, Rule::Plurality, BUDGET)?;
-    Ok(Output {
-        ends: Status::Done,
-        text: List::from_vec(print_cert(alloc, &cert)?),
-    })
-}
-
-/// The plain form of a ballot file.
-fn show_answer<F: Files>(alloc: Global, file: &Text, files: &mut F) -> Result<Output, Stop>
-    ensures answers { AnswersOrMemory (record { told = F.told files.old; at = F.at files.new; before = F.faults files.old; now = F.faults files.new }) (Job.Show file.now) result }
-    ensures told { F.told files.new ≡ F.told files.old }
-    ensures kept { IfOk result (λ _. F.faults files.new ≡ F.faults files.old) }
-{
-    let contest = load_contest(alloc, files, file)?;
-    Ok(Output {
-        ends: Status::Done,
-        text: List::from_vec(print_ballots(alloc, &contest)?),
-    })
 }

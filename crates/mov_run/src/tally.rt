@@ -3,16 +3,16 @@ ghost use Rattle.std.specs.Prelude.{◌≡◌, ◌++◌, ◌∷◌, [], IfOk, On
 ghost use Rattle.ballot_csv.specs.BallotFile.{named_poll_of};
 ghost use Rattle.ballot_form.specs.Rules.{IsRule};
 ghost use Rattle.text_lines.specs.Words.{line_text};
-ghost use Rattle.mov_run.specs.Tally.{IsCounted, IsTally, names_text, reported_text};
+ghost use Rattle.mov_run.specs.Tally.{AddsCount, IsTally, names_text, reported_text};
 ghost use Rattle.ballot_form.specs.declared.outcome.Outcome.TheVariants.{NoWinner, Seats, Winner};
 
-use crate::tally_pairs::pairs_count;
-use crate::tally_rounds::rounds_count;
-use crate::tally_scores::{borda_count, plurality_count};
-use crate::tally_seats::seats_count;
+use crate::tally_pairs::push_condorcet;
+use crate::tally_rounds::push_irv;
+use crate::tally_scores::{push_borda, push_plurality};
+use crate::tally_seats::push_dhondt;
 use ballot_form::{Cand, Contest, Outcome, Roll, Rule, Text};
 use cert_text::written::{push_reported, push_rule};
-use mov_base::{List, Memory};
+use mov_base::Memory;
 use std::alloc::Global;
 use text_lines::written::{push_list, push_number, push_two};
 
@@ -32,22 +32,21 @@ pub fn tally_text(alloc: Global, contest: &Contest, rule: Rule) -> Result<Vec<u8
         u64::from(roll.len()),
     )?;
     push_names(&mut out, contest.names.as_slice())?;
-    let count = count_of(alloc, roll, rule)?;
-    out.extend_from_slice(count.as_slice())?;
+    push_count(alloc, &mut out, roll, rule)?;
     Ok(out)
 }
 
-/// The lines of what the rule counts, and of the reported outcome.
-fn count_of(alloc: Global, roll: &Roll, rule: Rule) -> Result<List<u8>, Memory>
+/// Adds the lines of what the rule counts, and of the reported outcome.
+fn push_count(alloc: Global, out: &mut Vec<u8>, roll: &Roll, rule: Rule) -> Result<(), Memory>
     requires rule { IsRule rule }
-    ensures { IfOk result (λ text. IsCounted rule roll.now text) }
+    ensures { OnOk result (AddsCount rule roll.now out.old.items out.new.items) }
 {
     match rule {
-        Rule::Plurality => plurality_count(alloc, roll),
-        Rule::Borda => borda_count(alloc, roll),
-        Rule::Condorcet => pairs_count(alloc, roll),
-        Rule::Dhondt(s) => seats_count(alloc, roll, s),
-        Rule::Irv => rounds_count(alloc, roll),
+        Rule::Plurality => push_plurality(alloc, out, roll),
+        Rule::Borda => push_borda(alloc, out, roll),
+        Rule::Condorcet => push_condorcet(alloc, out, roll),
+        Rule::Dhondt(s) => push_dhondt(alloc, out, roll, s),
+        Rule::Irv => push_irv(alloc, out, roll),
     }
 }
 

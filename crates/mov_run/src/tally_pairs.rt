@@ -1,26 +1,23 @@
 // The lines of pairs.
-ghost use Rattle.std.specs.Prelude.{◌≡◌, ◌<◌, ◌++◌, IfOk, OnOk};
+ghost use Rattle.std.specs.Prelude.{◌≡◌, ◌<◌, ◌++◌, OnOk};
 ghost use Rattle.ballot_form.specs.declared.rule.Rule.TheVariants.{Condorcet};
 ghost use Rattle.condorcet_count.specs.Preferences.{count_in};
-ghost use Rattle.mov_run.specs.Tally.{IsCounted, pair_text, pairs_of, pairs_text, reported_text};
-ghost use Rattle.mov_run.specs.Counted.{condorcet_outcome_of};
+ghost use Rattle.mov_run.specs.Tally.{AddsCount, pair_text, pairs_of, pairs_text, reported_text, condorcet_outcome_of};
 
 use crate::tally::{push_no_winner, push_winner};
 use ballot_form::{Cand, Roll};
 use condorcet_count::{Matrix, condorcet_outcome, pairs};
-use mov_base::{List, Memory};
+use mov_base::Memory;
 use std::alloc::Global;
 use text_lines::written::push_number;
 
-/// How many prefer the one to the other of each pair, and who is chosen in all pairs.
-pub(crate) fn pairs_count(alloc: Global, roll: &Roll) -> Result<List<u8>, Memory>
-    ensures { IfOk result (λ text. IsCounted Condorcet roll.now text) }
+/// Adds how many prefer the one to the other of each pair, and who is chosen in all pairs.
+pub(crate) fn push_condorcet(alloc: Global, out: &mut Vec<u8>, roll: &Roll) -> Result<(), Memory>
+    ensures { OnOk result (AddsCount Condorcet roll.now out.old.items out.new.items) }
 {
     let matrix = pairs(alloc, roll)?;
-    let mut out = Vec::new(alloc);
-    push_pairs(&mut out, &matrix)?;
-    push_outcome(&mut out, condorcet_outcome(&matrix))?;
-    Ok(List::from_vec(out))
+    push_pairs(out, &matrix)?;
+    push_outcome(out, condorcet_outcome(&matrix))
 }
 
 /// Adds the line of the outcome.

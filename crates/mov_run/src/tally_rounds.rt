@@ -1,29 +1,26 @@
 // The lines of the rounds.
-ghost use Rattle.std.specs.Prelude.{◌≡◌, ◌≤◌, ◌<◌, ◌^◌, ◌++◌, ◌∷◌, [], if◌then◌else◌, IfOk, OnOk, codes, decimal, length, slice_index};
+ghost use Rattle.std.specs.Prelude.{◌≡◌, ◌≤◌, ◌<◌, ◌^◌, ◌++◌, ◌∷◌, [], if◌then◌else◌, OnOk, codes, decimal, length, slice_index};
 ghost use Rattle.std.specs.List.{join_with_byte};
 ghost use Rattle.ballot_form.specs.declared.rule.Rule.TheVariants.{Irv};
 ghost use Rattle.irv_count.specs.Orders.{IsOrder, held_count, stands};
-ghost use Rattle.mov_run.specs.Tally.{IsCounted, for_each, held_field, round_text, rounds_text};
+ghost use Rattle.mov_run.specs.Tally.{AddsCount, for_each, held_field, round_text, rounds_text};
 
 use crate::tally::push_winner;
 use ballot_form::{Cand, Roll};
 use irv_count::{all_of, count_irv, held_counts, stands_in, without};
-use mov_base::{List, Memory};
+use mov_base::Memory;
 use std::alloc::Global;
 use text_lines::written::push_number;
 
-/// Who goes out in each round and what everybody holds, and who is left.
-#[tactic(auto, using(crate::proofs::TallyRounds::rounds_counted))]
-pub(crate) fn rounds_count(alloc: Global, roll: &Roll) -> Result<List<u8>, Memory>
-    ensures { IfOk result (λ text. IsCounted Irv roll.now text) }
+/// Adds who goes out in each round and what everybody holds, and who is left.
+pub(crate) fn push_irv(alloc: Global, out: &mut Vec<u8>, roll: &Roll) -> Result<(), Memory>
+    ensures { OnOk result (AddsCount Irv roll.now out.old.items out.new.items) }
 {
     let order = count_irv(alloc, roll)?;
     let c = roll.candidates() as usize;
     let mut counts = vec![in alloc; 0u32; c]?;
-    let mut out = Vec::new(alloc);
-    push_rounds(&mut out, roll, order.as_slice(), counts.as_mut_slice())?;
-    push_winner(&mut out, order.as_slice()[c - 1])?;
-    Ok(List::from_vec(out))
+    push_rounds(out, roll, order.as_slice(), counts.as_mut_slice())?;
+    push_winner(out, order.as_slice()[c - 1])
 }
 
 /// Adds a line for each round, till one is left. `counts` has a place for each candidate, and what is written there means nothing.

@@ -1,32 +1,35 @@
 // The lines of votes and seats.
-ghost use Rattle.std.specs.Prelude.{◌≡◌, ◌≤◌, ◌++◌, ◌∷◌, [], IfOk, OnOk, codes, decimal, length, slice_index};
+ghost use Rattle.std.specs.Prelude.{◌≡◌, ◌≤◌, ◌++◌, ◌∷◌, [], OnOk, codes, decimal, length, slice_index};
 ghost use Rattle.ballot_form.specs.declared.limits.TheConstants.{MOST_SEATS};
 ghost use Rattle.ballot_form.specs.declared.rule.Rule.TheVariants.{Dhondt};
 ghost use Rattle.text_lines.specs.Words.{line_text};
-ghost use Rattle.mov_run.specs.Tally.{IsCounted, seats_text};
+ghost use Rattle.mov_run.specs.Tally.{AddsCount, seats_text};
 
 use crate::tally::push_seats;
 use ballot_form::Roll;
 use dhondt_seats::{party_votes, seats};
-use mov_base::{List, Memory};
+use mov_base::Memory;
 use std::alloc::Global;
 use text_lines::written::push_number;
 
-/// The votes and the seats of each party, of `s` seats in all.
-pub(crate) fn seats_count(alloc: Global, roll: &Roll, s: u16) -> Result<List<u8>, Memory>
+/// Adds the votes and the seats of each party, of `s` seats in all.
+pub(crate) fn push_dhondt(
+    alloc: Global,
+    out: &mut Vec<u8>,
+    roll: &Roll,
+    s: u16,
+) -> Result<(), Memory>
     requires some { 1 ≤ s }
     requires most { s ≤ MOST_SEATS }
-    ensures { IfOk result (λ text. IsCounted (Dhondt s) roll.now text) }
+    ensures { OnOk result (AddsCount (Dhondt s) roll.now out.old.items out.new.items) }
 {
     let counted = party_votes(alloc, roll)?;
     let votes = counted.as_slice();
     let _ = roll.candidates();
     let served = seats(alloc, votes, s)?;
     let shares = served.as_slice();
-    let mut out = Vec::new(alloc);
-    push_shares(&mut out, votes, shares)?;
-    push_seats(&mut out, shares)?;
-    Ok(List::from_vec(out))
+    push_shares(out, votes, shares)?;
+    push_seats(out, shares)
 }
 
 /// Adds a line for each party.

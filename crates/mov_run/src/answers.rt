@@ -1,0 +1,101 @@
+// The answer of each command.
+ghost use Rattle.std.specs.Prelude.{◌≡◌, IfOk};
+ghost use Rattle.ballot_form.specs.Rules.{IsRule};
+ghost use Rattle.mov_run.specs.Inputs.{found};
+ghost use Rattle.mov_run.specs.Jobs.{AnswersOrMemory};
+
+use crate::jobs::Job;
+use crate::loads::{load_cert, load_contest};
+use crate::run_faults::RunFault;
+use crate::runs::{Output, Status};
+use crate::tally::tally_text;
+use crate::verdicts::{verdict_status, verdict_text};
+use ballot_csv::print_ballots;
+use ballot_form::{Rule, Text};
+use cert_text::print_cert;
+use margin_check::check;
+use margin_solve::margin;
+use mov_base::List;
+use mov_edge::Files;
+use std::alloc::Global;
+
+/// The most nodes of a tree that a search may grow.
+const BUDGET: u32 = 20_000;
+
+/// The tally of the contest in a ballot file.
+pub(crate) fn tally_answer<F: Files>(
+    alloc: Global,
+    rule: Rule,
+    file: &Text,
+    files: &mut F,
+) -> Result<Output, RunFault>
+    requires { IsRule rule }
+    ensures answers { AnswersOrMemory
+        (found F.told F.at F.begun F.faults files.old files.new) (Job.Tally rule file.now) result }
+    ensures told { F.told files.new ≡ F.told files.old }
+    ensures kept { IfOk result (λ _. F.faults files.new ≡ F.faults files.old) }
+{
+    let contest = load_contest(alloc, files, file)?;
+    Ok(Output {
+        ends: Status::Done,
+        text: List::from_vec(tally_text(alloc, &contest, rule)?),
+    })
+}
+
+/// The certificate of the contest in a ballot file.
+pub(crate) fn margin_answer<F: Files>(
+    alloc: Global,
+    file: &Text,
+    files: &mut F,
+) -> Result<Output, RunFault>
+    ensures answers { AnswersOrMemory
+        (found F.told F.at F.begun F.faults files.old files.new) (Job.Margin Rule.Plurality file.now) result }
+    ensures told { F.told files.new ≡ F.told files.old }
+    ensures kept { IfOk result (λ _. F.faults files.new ≡ F.faults files.old) }
+{
+    let contest = load_contest(alloc, files, file)?;
+    let cert = margin(alloc, &contest, Rule::Plurality, BUDGET)?;
+    Ok(Output {
+        ends: Status::Done,
+        text: List::from_vec(print_cert(alloc, &cert)?),
+    })
+}
+
+/// The verdict on the certificate in a file, for the contest in a ballot file.
+pub(crate) fn check_answer<F: Files>(
+    alloc: Global,
+    ballots: &Text,
+    cert: &Text,
+    files: &mut F,
+) -> Result<Output, RunFault>
+    ensures answers { AnswersOrMemory
+        (found F.told F.at F.begun F.faults files.old files.new) (Job.Check ballots.now cert.now) result }
+    ensures told { F.told files.new ≡ F.told files.old }
+    ensures kept { IfOk result (λ _. F.faults files.new ≡ F.faults files.old) }
+{
+    let contest = load_contest(alloc, files, ballots)?;
+    let cert = load_cert(alloc, files, cert)?;
+    let verdict = check(alloc, &contest, &cert)?;
+    Ok(Output {
+        ends: verdict_status(verdict),
+        text: verdict_text(alloc, &cert, verdict)?,
+    })
+}
+
+/// The plain form of a ballot file.
+pub(crate) fn show_answer<F: Files>(
+    alloc: Global,
+    file: &Text,
+    files: &mut F,
+) -> Result<Output, RunFault>
+    ensures answers { AnswersOrMemory
+        (found F.told F.at F.begun F.faults files.old files.new) (Job.Show file.now) result }
+    ensures told { F.told files.new ≡ F.told files.old }
+    ensures kept { IfOk result (λ _. F.faults files.new ≡ F.faults files.old) }
+{
+    let contest = load_contest(alloc, files, file)?;
+    Ok(Output {
+        ends: Status::Done,
+        text: List::from_vec(print_ballots(alloc, &contest)?),
+    })
+}
