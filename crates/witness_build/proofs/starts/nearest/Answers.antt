@@ -12,7 +12,7 @@ level_of-requires c =
     let items = c.as_slice-goal-items.ensures in
     let within : c.loop-goal.goal-index < length c.args.race.now.roots = (let n = ap length items in omega (arith, n, c.loop-goal-test.true)) in
     let stands : get_or c.args.race.now.roots c.loop-goal.goal-index Root ≡ c.in_ok-start.start.goal =
-        sym (c.in_ok-start.ensures.goal ∙ ap (λ xs. get_or xs c.loop-goal.goal-index Root) items) in
+    sym (c.in_ok-start.ensures.goal ∙ ap (λ xs. get_or xs c.loop-goal.goal-index Root) items) in
     (e, ground_at e c.loop-goal.goal-index c.in_ok-start.start c.requires.race.election within stands c.in_ok-start.ensures.values)
 
 pub loop-goal-preserved : goal.loop-goal-preserved
@@ -21,7 +21,7 @@ loop-goal-preserved c =
     let items = c.as_slice-goal-items.ensures in
     let within : c.loop-goal.goal-index < length c.args.race.now.roots = (let n = ap length items in omega (arith, n, c.loop-goal-test.true)) in
     let stands : get_or c.args.race.now.roots c.loop-goal.goal-index Root ≡ c.in_ok-start.start.goal =
-        sym (c.in_ok-start.ensures.goal ∙ ap (λ xs. get_or xs c.loop-goal.goal-index Root) items) in
+    sym (c.in_ok-start.ensures.goal ∙ ap (λ xs. get_or xs c.loop-goal.goal-index Root) items) in
     let here : IsLevelAt e c.loop-goal.goal-index c.in_ok-start.start c.in_ok-level.level = record {
       within = within;
       stands = stands;
