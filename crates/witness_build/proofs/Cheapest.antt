@@ -1,8 +1,7 @@
 -- The ballots with the largest gains, replaced by the gainer alone, are the cheapest replacements of a pair.
-use Rattle.std.proofs.Common.{ℕ, List, [], ◌∷◌, ◌≡◌, ◌<◌, ◌≤◌, ◌+◌, ◌*◌, ◌∙◌, length, map, refl, sym, ap, subst, arith}
+use Rattle.std.proofs.Common.{ℕ, List, [], ◌∷◌, ◌≡◌, ◌≤◌, ◌∙◌, length, refl, sym, ap, subst, arith}
 use Rattle.std.specs.Prelude.{Contains}
 use Rattle.std.proofs.lemmas.List.{get_or_default, length-map}
-use Rattle.mov_base.specs.Sums.{add_up}
 use Rattle.ballot_form.specs.Alterations.{IsAlteration, after}
 use Rattle.goal_rows.specs.Elections.{Election}
 use Rattle.goal_rows.specs.Goals.{Holds, IsElection, IsReached, IsRootOf, gainer_points, loser_points}
@@ -15,7 +14,7 @@ use Rattle.goal_rows.proofs.Bounds.{length_reaches}
 use Rattle.goal_rows.proofs.PairPoints.{pair_points}
 use Rattle.goal_rows.proofs.PairTurning.{pair_row}
 use Rattle.goal_rows.proofs.Ways.{reached_pair}
-use Rattle.witness_build.specs.Levels.{IsLevelFor, IsLevelUnder, above, deficit_under, first_from, gains_under, largest}
+use Rattle.witness_build.specs.Levels.{IsLevelFor, IsLevelUnder, deficit_under, first_from, gains_under, largest}
 use Rattle.witness_build.specs.Witnesses.{IsMetBy, IsPairWitness, IsRootPair, IsStartWitness, IsWitnessOf, pair_deficit, pair_gains}
 use Rattle.witness_build.specs.declared.levels.Level.{Level}
 use Rattle.witness_build.proofs.Thresholds.{level_least, level_reaches}

@@ -1,9 +1,9 @@
 -- One root pair more on the way to the one that the fewest replacements bring level.
-use Rattle.std.proofs.Common.{ℕ, suc, List, true, false, Option, Some, None, ◌≡◌, ◌<◌, ◌≤◌, ◌+◌, ◌∙◌, length, get_or, refl, sym, subst, inl, inr, arith}
+use Rattle.std.proofs.Common.{ℕ, List, true, false, Option, Some, None, ◌≡◌, ◌<◌, ◌≤◌, ◌+◌, ◌∙◌, length, get_or, sym, subst, inl, inr, arith}
 use Rattle.std.proofs.lemmas.Bool.{cases_lt, ltb-true, ltb-false}
 use Rattle.std.proofs.lemmas.List.{get_or_default}
 use Rattle.goal_rows.specs.Elections.{Election}
-use Rattle.goal_rows.specs.Goals.{IsElection, IsReached, IsRootOf}
+use Rattle.goal_rows.specs.Goals.{IsElection, IsRootOf}
 use Rattle.goal_rows.specs.Races.{IsGroundIn, IsGroundOf}
 use Rattle.goal_rows.specs.declared.goals.Goal.{Goal}
 use Rattle.goal_rows.specs.declared.goals.Goal.TheVariants.{Root, Pair}

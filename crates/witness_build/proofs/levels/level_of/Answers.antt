@@ -1,8 +1,6 @@
-use Rattle.std.proofs.Common.{ℕ, ◌≡◌, ◌<◌, ◌∙◌, length, slice_index, sym, ap, subst, arith, rules}
+use Rattle.std.proofs.Common.{◌≡◌, ◌∙◌, length, slice_index, sym, ap, subst, arith}
 use Rattle.mov_base.specs.Sums.{add_up}
-use Rattle.goal_rows.specs.Elections.{Election}
-use Rattle.goal_rows.specs.Races.{IsGroundIn}
-use Rattle.witness_build.specs.Levels.{AreEnough, IsLevelFor, deficit_under, gains_under, of_key}
+use Rattle.witness_build.specs.Levels.{AreEnough, IsLevelFor, gains_under, of_key}
 use Rattle.witness_build.proofs.Grounds.{counted_gains, few_classes}
 use Rattle.witness_build.proofs.levels.level_of.Goals as goal
 

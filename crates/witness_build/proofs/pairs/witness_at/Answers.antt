@@ -1,11 +1,8 @@
-use Rattle.std.proofs.Common.{◌≡◌, ◌∙◌, List, ap, sym, subst, rules}
+use Rattle.std.proofs.Common.{◌≡◌, ◌∙◌, ap, sym, subst}
 use Rattle.alteration_model.specs.Faults.{pairs_of}
-use Rattle.ballot_form.specs.Alterations.{IsAlteration}
 use Rattle.goal_rows.specs.Pairs.{puts_of}
 use Rattle.goal_rows.specs.Races.{election_of}
-use Rattle.goal_rows.specs.declared.goals.Goal.{Goal}
 use Rattle.witness_build.specs.Levels.{first_from, gains_under}
-use Rattle.witness_build.specs.Witnesses.{IsMetBy, IsWitnessOf}
 use Rattle.witness_build.proofs.Cheapest.{AreBuilt, built}
 use Rattle.witness_build.proofs.pairs.witness_at.Goals as goal
 

@@ -1,7 +1,6 @@
 use Rattle.std.proofs.Common.{◌≡◌, ◌<◌, ◌∙◌, length, get_or, ap, sym, arith}
 use Rattle.goal_rows.specs.Races.{election_of}
 use Rattle.goal_rows.specs.declared.goals.Goal.TheVariants.{Root}
-use Rattle.witness_build.specs.Nearest.{IsNearestSoFar}
 use Rattle.witness_build.proofs.Nearby.{IsLevelAt, ground_at, nearest_stays, nearest_taken}
 use Rattle.witness_build.proofs.starts.nearest.Goals as goal
 use Rattle.witness_build.proofs.starts.nearest.Goals.{then-is_closer, else-is_closer}
