@@ -1,8 +1,7 @@
 -- The ballots with the largest gains, replaced by the gainer alone, are the cheapest replacements of a pair.
-use Rattle.std.proofs.Common.{ℕ, List, [], ◌∷◌, ◌≡◌, ◌<◌, ◌≤◌, ◌+◌, ◌*◌, ◌∙◌, length, map, refl, sym, ap, subst, arith}
+use Rattle.std.proofs.Common.{ℕ, List, [], ◌∷◌, ◌≡◌, ◌≤◌, ◌∙◌, length, refl, sym, ap, subst, arith}
 use Rattle.std.specs.Prelude.{Contains}
 use Rattle.std.proofs.lemmas.List.{get_or_default, length-map}
-use Rattle.mov_base.specs.Sums.{add_up}
 use Rattle.ballot_form.specs.Alterations.{IsAlteration, after}
 use Rattle.goal_rows.specs.Elections.{Election}
 use Rattle.goal_rows.specs.Goals.{Holds, IsElection, IsReached, IsRootOf, gainer_points, loser_points}
@@ -15,11 +14,11 @@ use Rattle.goal_rows.proofs.Bounds.{length_reaches}
 use Rattle.goal_rows.proofs.PairPoints.{pair_points}
 use Rattle.goal_rows.proofs.PairTurning.{pair_row}
 use Rattle.goal_rows.proofs.Ways.{reached_pair}
-use Rattle.witness_build.specs.Levels.{IsLevel, IsLevelUnder, above, deficit_under, first_from, gains_under, largest}
+use Rattle.witness_build.specs.Levels.{IsLevelFor, IsLevelUnder, deficit_under, first_from, gains_under, largest}
 use Rattle.witness_build.specs.Witnesses.{IsMetBy, IsPairWitness, IsRootPair, IsStartWitness, IsWitnessOf, pair_deficit, pair_gains}
 use Rattle.witness_build.specs.declared.levels.Level.{Level}
 use Rattle.witness_build.proofs.Thresholds.{level_least, level_reaches}
-use Rattle.witness_build.proofs.Largest.{Fits, alters, come_first, length-first, moved}
+use Rattle.witness_build.proofs.Largest.{HasAsMany, alters, come_first, length-first, moved}
 
 -- the numbers that are chosen at a level
 abbrev pub numbers_at : Election → ℕ → ℕ → Level → List ℕ
@@ -31,17 +30,17 @@ length-gains e g l = length-map e.poll.ballots _
 length-puts : (g : ℕ) (numbers : List ℕ) → length (puts_of g numbers) ≡ length numbers
 length-puts g numbers = length-map numbers _
 
-fits_at : (deficit : ℕ) (gains : List ℕ) (level : Level) → IsLevel deficit gains level → Fits level.gain level.equal gains
-fits_at deficit gains level is = omega (arith, is.counted, is.within)
+as_many_at : (deficit : ℕ) (gains : List ℕ) (level : Level) → IsLevelFor deficit gains level → HasAsMany level.gain level.equal gains
+as_many_at deficit gains level is = omega (arith, is.counted, is.within)
 
-pub length-at : (e : Election) (g l : ℕ) (level : Level) → IsLevel (pair_deficit e g l) (pair_gains e g l) level → length (puts_of g (numbers_at e g l level)) ≡ level.count
+pub length-at : (e : Election) (g l : ℕ) (level : Level) → IsLevelFor (pair_deficit e g l) (pair_gains e g l) level → length (puts_of g (numbers_at e g l level)) ≡ level.count
 length-at e g l level is =
-    length-puts g (numbers_at e g l level) ∙ length-first level.gain level.equal 1 (pair_gains e g l) (fits_at (pair_deficit e g l) (pair_gains e g l) level is) ∙ sym is.counted
+    length-puts g (numbers_at e g l level) ∙ length-first level.gain level.equal 1 (pair_gains e g l) (as_many_at (pair_deficit e g l) (pair_gains e g l) level is) ∙ sym is.counted
 
 pub alteration_at : (e : Election) (g l : ℕ) (level : Level) → IsRootOf e (Pair g l) → IsAlteration e.poll (puts_of g (numbers_at e g l level))
 alteration_at e g l level root = alters e.poll.c g level.gain level.equal 1 (length e.poll.ballots) (pair_gains e g l) root.1 (omega (arith, length-gains e g l))
 
-pub witness_of : (e : Election) (g l : ℕ) (level : Level) → IsRootOf e (Pair g l) → IsLevel (pair_deficit e g l) (pair_gains e g l) level
+pub witness_of : (e : Election) (g l : ℕ) (level : Level) → IsRootOf e (Pair g l) → IsLevelFor (pair_deficit e g l) (pair_gains e g l) level
     → IsPairWitness e g l (puts_of g (numbers_at e g l level))
 witness_of e g l level root is =
     let size = length-at e g l level is in
@@ -57,10 +56,10 @@ witness_of e g l level root is =
     }
 
 pub met_of : (e : Election) (g l : ℕ) (level : Level) → IsElection e → IsRootOf e (Pair g l) → Contains e.roots (Pair g l)
-    → IsLevel (pair_deficit e g l) (pair_gains e g l) level → IsMetBy e (Pair g l) (puts_of g (numbers_at e g l level))
+    → IsLevelFor (pair_deficit e g l) (pair_gains e g l) level → IsMetBy e (Pair g l) (puts_of g (numbers_at e g l level))
 met_of e g l level election root there is =
     let points = pair_points e g l election root in
-    let fits = fits_at (pair_deficit e g l) (pair_gains e g l) level is in
+    let fits = as_many_at (pair_deficit e g l) (pair_gains e g l) level is in
     let moves = moved e.poll.c (length e.poll.ballots) g (gainer_points e g l (g ∷ [])) level.gain level.equal 1 (gainer_points e g l) (loser_points e g l) e.poll.ballots
     (record { alone = refl; none = points.none; most = points.high }) root.1 (omega arith) fits in
     let count = ap (λ n. largest level.gain n (pair_gains e g l)) is.counted in
@@ -95,7 +94,7 @@ pub record AreBuilt (e : Election) (goal : Goal) (level : Level) (changes : List
   pub met : IsMetBy e goal changes
 
 built_under : (e : Election) (goal : Goal) (g l : ℕ) (level : Level) (changes : List (ℕ × List ℕ)) → IsElection e → IsReached e goal → goal ≡ Pair g l
-    → IsLevel (deficit_under e goal) (gains_under e goal) level → changes ≡ puts_of g (first_from level.gain level.equal 1 (gains_under e goal)) → AreBuilt e goal level changes
+    → IsLevelFor (deficit_under e goal) (gains_under e goal) level → changes ≡ puts_of g (first_from level.gain level.equal 1 (gains_under e goal)) → AreBuilt e goal level changes
 built_under e Root g l level changes election reached pair is changes_are = absurd (cc)
 built_under e (Pair h m) g l level changes election reached pair is changes_are =
     let same : g ≡ h = cc in

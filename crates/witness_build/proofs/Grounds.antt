@@ -1,5 +1,5 @@
 -- Of the ground of a goal: the greatest gain, what is lacking, and how many ballots have each gain.
-use Rattle.std.proofs.Common.{ℕ, zero, suc, List, [], ◌∷◌, ◌≡◌, ◌<◌, ◌≤◌, ◌+◌, ◌-◌, ◌*◌, ◌∙◌, length, map, nat_abs, slice_get, Some, FitsSigned, w64, to_z, of_z, sym, ap, refl, subst, arith, rules}
+use Rattle.std.proofs.Common.{ℕ, zero, suc, List, [], ◌∷◌, ◌≡◌, ◌<◌, ◌≤◌, ◌+◌, ◌-◌, ◌∙◌, length, map, nat_abs, slice_get, Some, FitsSigned, w64, to_z, of_z, sym, ap, refl, subst, arith, rules}
 use Rattle.std.specs.Prelude.{nat_eq, slice_index, ℤ, pos, negsuc, ◌-ℤ◌}
 use Rattle.std.proofs.lemmas.Bool.Decides.{nat_tests}
 use Rattle.std.proofs.lemmas.Int.{ints, to_z-of_z}
@@ -11,7 +11,7 @@ use Rattle.ballot_form.specs.declared.limits.TheConstants.{MOST_BALLOTS}
 use Rattle.signature_class.specs.Classes.{classes_of}
 use Rattle.signature_class.proofs.Counts.{keys_are_classes, sum-times_one}
 use Rattle.goal_rows.specs.Elections.{Election}
-use Rattle.goal_rows.specs.Goals.{IsElection, IsReached, IsRootOf, gainer_points, loser_points, pair_weight, rows_of}
+use Rattle.goal_rows.specs.Goals.{IsElection, IsReached, gainer_points, loser_points, rows_of}
 use Rattle.goal_rows.specs.Races.{IsGroundIn, key_of, keys_of, lone_weight}
 use Rattle.goal_rows.specs.declared.goals.Goal.{Goal}
 use Rattle.goal_rows.specs.declared.goals.Goal.TheVariants.{Root, Pair}
@@ -19,7 +19,7 @@ use Rattle.goal_rows.specs.declared.parts.Ground.{Ground}
 use Rattle.goal_rows.proofs.PairPoints.{ArePairPoints, pair_points}
 use Rattle.goal_rows.proofs.Ways.{reached_pair}
 use Rattle.witness_build.specs.Levels.{AreCounts, AreEnough, above, below_zero, deficit_under, equals, gains_under, greatest_under, of_key}
-use Rattle.witness_build.specs.Witnesses.{pair_deficit, pair_gains}
+use Rattle.witness_build.specs.Witnesses.{pair_gains}
 
 -- ---- the greatest gain
 

@@ -1,6 +1,6 @@
--- The ballots with the largest gains: how many they are, that they are an alteration, what replacing them does, and that
--- they come first.
-use Rattle.std.proofs.Common.{ℕ, zero, suc, Bool, true, false, cond, List, [], ◌∷◌, ◌≡◌, ◌<◌, ◌≤◌, ◌==◌, ◌&&◌, ◌+◌, ◌-◌, ◌*◌, ◌⊎◌, ◌∙◌, refl, sym, ap, subst, inl, inr, length, map, get_or, ltb, arith, All}
+-- The ballots with the largest gains: how many they are, that they are an alteration, what replacing them does, and
+-- that they come first.
+use Rattle.std.proofs.Common.{ℕ, zero, suc, true, false, List, [], ◌∷◌, ◌≡◌, ◌<◌, ◌≤◌, ◌==◌, ◌+◌, ◌-◌, ◌*◌, ◌⊎◌, ◌∙◌, refl, sym, ap, subst, inl, inr, length, map, get_or, ltb, arith, All}
 use Rattle.std.specs.Prelude.{Contains, slice_index, slice_index_or}
 use Rattle.std.proofs.lemmas.Bool.{cases_eq, cases_lt}
 use Rattle.std.proofs.lemmas.Bool.Decides.{nat_tests}
@@ -83,31 +83,31 @@ reaching_none : (θ gain : ℕ) → gain < θ → reaching θ gain ≡ 0
 reaching_none θ gain lt = grind (arith, nat_tests)
 
 -- there are as many as are to be chosen
-abbrev pub Fits : ℕ → ℕ → List ℕ → Type 0
-Fits θ equal gains = add_up (above θ) gains + equal ≤ add_up (reaching θ) gains
+abbrev pub HasAsMany : ℕ → ℕ → List ℕ → Type 0
+HasAsMany θ equal gains = add_up (above θ) gains + equal ≤ add_up (reaching θ) gains
 
-fits_greater : (θ equal gain : ℕ) (gains : List ℕ) → θ < gain → Fits θ equal (gain ∷ gains) → Fits θ equal gains
-fits_greater θ equal gain gains lt fits = omega (arith, fits, above_greater θ gain lt, reaching_one θ gain)
+as_many_greater : (θ equal gain : ℕ) (gains : List ℕ) → θ < gain → HasAsMany θ equal (gain ∷ gains) → HasAsMany θ equal gains
+as_many_greater θ equal gain gains lt fits = omega (arith, fits, above_greater θ gain lt, reaching_one θ gain)
 
-fits_level : (θ rest gain : ℕ) (gains : List ℕ) → Fits θ (suc rest) (gain ∷ gains) → Fits θ rest gains
-fits_level θ rest gain gains fits = omega (arith, fits, reaching_one θ gain)
+as_many_level : (θ rest gain : ℕ) (gains : List ℕ) → HasAsMany θ (suc rest) (gain ∷ gains) → HasAsMany θ rest gains
+as_many_level θ rest gain gains fits = omega (arith, fits, reaching_one θ gain)
 
-fits_passed : (θ equal gain : ℕ) (gains : List ℕ) → gain ≤ θ → (gain ≡ θ → equal ≡ 0) → Fits θ equal (gain ∷ gains) → Fits θ equal gains
-fits_passed θ equal gain gains le none fits = elim (cases_lt gain θ) [
+as_many_passed : (θ equal gain : ℕ) (gains : List ℕ) → gain ≤ θ → (gain ≡ θ → equal ≡ 0) → HasAsMany θ equal (gain ∷ gains) → HasAsMany θ equal gains
+as_many_passed θ equal gain gains le none fits = elim (cases_lt gain θ) [
   | inl less ↦ omega (arith, fits, above_none θ gain le, reaching_none θ gain less)
   | inr ge ↦ let e = none (omega (arith, le, ge)) in omega (arith, e, reaching_is θ gains)
 ]
 
 -- ---- how many they are
 
-pub length-first : (θ equal i : ℕ) (gains : List ℕ) → Fits θ equal gains → length (first_from θ equal i gains) ≡ add_up (above θ) gains + equal
+pub length-first : (θ equal i : ℕ) (gains : List ℕ) → HasAsMany θ equal gains → length (first_from θ equal i gains) ≡ add_up (above θ) gains + equal
 length-first θ equal i [] fits = omega (arith, fits)
 length-first θ equal i (gain ∷ gains) fits = elim (step_of θ equal i gain gains) [
-  | greater lt is ↦ omega (arith, ap length is, above_greater θ gain lt, length-first θ equal (i + 1) gains (fits_greater θ equal gain gains lt fits))
+  | greater lt is ↦ omega (arith, ap length is, above_greater θ gain lt, length-first θ equal (i + 1) gains (as_many_greater θ equal gain gains lt fits))
   | level rest e left is ↦
-      let fit : Fits θ (suc rest) (gain ∷ gains) = subst (λ n. Fits θ n (gain ∷ gains)) left fits in
-      omega (arith, ap length is, left, above_none θ gain (omega (arith, e)), length-first θ rest (i + 1) gains (fits_level θ rest gain gains fit))
-  | passed le none is ↦ omega (arith, ap length is, above_none θ gain le, length-first θ equal (i + 1) gains (fits_passed θ equal gain gains le none fits))
+      let fit : HasAsMany θ (suc rest) (gain ∷ gains) = subst (λ n. HasAsMany θ n (gain ∷ gains)) left fits in
+      omega (arith, ap length is, left, above_none θ gain (omega (arith, e)), length-first θ rest (i + 1) gains (as_many_level θ rest gain gains fit))
+  | passed le none is ↦ omega (arith, ap length is, above_none θ gain le, length-first θ equal (i + 1) gains (as_many_passed θ equal gain gains le none fits))
 ]
 
 -- ---- they are an alteration
@@ -177,7 +177,7 @@ moved_passed : (θ equal gain p m p' m' plus minus more beyond a : ℕ) → gain
 moved_passed θ equal gain p m p' m' plus minus more beyond a le one rest = rw one (omega (arith, le, rest))
 
 pub moved : (c n g top θ equal i : ℕ) (plus minus : List ℕ → ℕ) (rows : List (List ℕ)) → AreGains g top plus minus → g < c → i + length rows ≡ n + 1
-    → Fits θ equal (map (gain_of top plus minus) rows)
+    → HasAsMany θ equal (map (gain_of top plus minus) rows)
     → Moved θ equal top plus minus rows (after_from i rows (puts_of g (first_from θ equal i (map (gain_of top plus minus) rows))))
 moved c n g top θ equal i plus minus [] are lt size fits = let e : equal ≡ 0 = omega (arith, fits) in rw e (omega arith)
 moved c n g top θ equal i plus minus (row ∷ rows) are lt size fits =
@@ -188,20 +188,20 @@ moved c n g top θ equal i plus minus (row ∷ rows) are lt size fits =
     let none = are.none in
     elim (step_of θ equal i gain gains) [
       | greater more is ↦
-          let rest = moved c n g top θ equal (i + 1) plus minus rows are lt (omega arith) (fits_greater θ equal gain gains more fits) in
+          let rest = moved c n g top θ equal (i + 1) plus minus rows are lt (omega arith) (as_many_greater θ equal gain gains more fits) in
           rw (is, after_here g i row rows (first_from θ equal (i + 1) gains), alone, none)
           (moved_greater θ equal top gain (add_up plus rows) (add_up minus rows) (add_up plus (after_from (i + 1) rows (puts_of g (first_from θ equal (i + 1) gains))))
           (add_up minus (after_from (i + 1) rows (puts_of g (first_from θ equal (i + 1) gains)))) (plus row) (minus row) (add_up (above θ) gains) (add_up (λ x. x - θ) gains) (above θ gain)
           (are.most row) refl more (above_greater θ gain more) rest)
       | level left e same is ↦
-          let fit : Fits θ (suc left) (gain ∷ gains) = subst (λ n. Fits θ n (gain ∷ gains)) same fits in
-          let rest = moved c n g top θ left (i + 1) plus minus rows are lt (omega arith) (fits_level θ left gain gains fit) in
+          let fit : HasAsMany θ (suc left) (gain ∷ gains) = subst (λ n. HasAsMany θ n (gain ∷ gains)) same fits in
+          let rest = moved c n g top θ left (i + 1) plus minus rows are lt (omega arith) (as_many_level θ left gain gains fit) in
           rw (is, after_here g i row rows (first_from θ left (i + 1) gains), alone, none, same)
           (moved_level θ left top gain (add_up plus rows) (add_up minus rows) (add_up plus (after_from (i + 1) rows (puts_of g (first_from θ left (i + 1) gains))))
           (add_up minus (after_from (i + 1) rows (puts_of g (first_from θ left (i + 1) gains)))) (plus row) (minus row) (add_up (above θ) gains) (add_up (λ x. x - θ) gains) (above θ gain)
           (are.most row) refl e (above_none θ gain (omega (arith, e))) rest)
       | passed le out is ↦
-          let rest = moved c n g top θ equal (i + 1) plus minus rows are lt (omega arith) (fits_passed θ equal gain gains le out fits) in
+          let rest = moved c n g top θ equal (i + 1) plus minus rows are lt (omega arith) (as_many_passed θ equal gain gains le out fits) in
           let ok = alters c g θ equal (i + 1) n gains lt (omega (arith, long)) in
           rw (is, after_later c i n row rows (puts_of g (first_from θ equal (i + 1) gains)) ok)
           (moved_passed θ equal gain (add_up plus rows) (add_up minus rows) (add_up plus (after_from (i + 1) rows (puts_of g (first_from θ equal (i + 1) gains))))

@@ -1,15 +1,15 @@
 -- One root pair more on the way to the one that the fewest replacements bring level.
-use Rattle.std.proofs.Common.{ℕ, suc, List, true, false, Option, Some, None, ◌≡◌, ◌<◌, ◌≤◌, ◌+◌, ◌∙◌, length, get_or, refl, sym, subst, inl, inr, arith}
+use Rattle.std.proofs.Common.{ℕ, List, true, false, Option, Some, None, ◌≡◌, ◌<◌, ◌≤◌, ◌+◌, ◌∙◌, length, get_or, sym, subst, inl, inr, arith}
 use Rattle.std.proofs.lemmas.Bool.{cases_lt, ltb-true, ltb-false}
 use Rattle.std.proofs.lemmas.List.{get_or_default}
 use Rattle.goal_rows.specs.Elections.{Election}
-use Rattle.goal_rows.specs.Goals.{IsElection, IsReached, IsRootOf}
+use Rattle.goal_rows.specs.Goals.{IsElection, IsRootOf}
 use Rattle.goal_rows.specs.Races.{IsGroundIn, IsGroundOf}
 use Rattle.goal_rows.specs.declared.goals.Goal.{Goal}
 use Rattle.goal_rows.specs.declared.goals.Goal.TheVariants.{Root, Pair}
 use Rattle.goal_rows.specs.declared.parts.Ground.{Ground}
 use Rattle.goal_rows.proofs.Ways.{reached_exactly}
-use Rattle.witness_build.specs.Levels.{IsLevel, IsLevelUnder, deficit_under, gains_under}
+use Rattle.witness_build.specs.Levels.{IsLevelFor, IsLevelUnder, deficit_under, gains_under}
 use Rattle.witness_build.specs.Nearest.{IsNearestSoFar, IsNearestUpTo, is_closer}
 use Rattle.witness_build.specs.Witnesses.{IsRootPair, IsStartWitness, IsWitnessOf, PairReaches}
 use Rattle.witness_build.specs.declared.levels.Level.{Level}
@@ -37,7 +37,7 @@ reaches_at : (e : Election) (at g l i : ℕ) (start : Ground) (level : Level) �
 reaches_at e at g l i start level is pair reached =
     let goal : start.goal ≡ Pair g l = sym is.stands ∙ pair.1 in
     level_least (deficit_under e (Pair g l)) (gains_under e (Pair g l)) level i
-    (subst (λ x. IsLevel (deficit_under e x) (gains_under e x) level) goal (is.reaches e is.known)) reached
+    (subst (λ x. IsLevelFor (deficit_under e x) (gains_under e x) level) goal (is.reaches e is.known)) reached
 
 abbrev near_at : Ground → Level → Near
 near_at start level = record { start = start; level = level }

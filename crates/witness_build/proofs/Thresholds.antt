@@ -9,7 +9,7 @@ use Rattle.ballot_form.specs.declared.limits.TheConstants.{MOST_BALLOTS}
 use Rattle.mov_base.specs.Sums.{add_up}
 use Rattle.mov_base.proofs.Most.{most-le, most-reached}
 use Rattle.goal_rows.specs.Pairs.{Reaches}
-use Rattle.witness_build.specs.Levels.{AreCounts, AreEnough, IsLevel, above, equals, largest, reaching}
+use Rattle.witness_build.specs.Levels.{AreCounts, AreEnough, IsLevelFor, above, equals, largest, reaching}
 use Rattle.witness_build.specs.declared.levels.Level.{Level}
 
 -- ---- one gain
@@ -89,7 +89,7 @@ few_enough lacking gain many zero last up = omega arith
 few_enough lacking gain many (suc k) last up = let lt = less_factor k many gain (omega (arith, last, up)) in omega (arith, lt)
 
 pub found : (deficit : ℕ) (gains : List ℕ) (gain lacking count many equal : ℕ) → IsSoFar deficit gains gain lacking count → many ≡ add_up (equals gain) gains
-    → lacking ≤ gain * many → lacking ≤ equal * gain → equal * gain < lacking + gain → IsLevel deficit gains (record { gain = gain; equal = equal; count = count + equal })
+    → lacking ≤ gain * many → lacking ≤ equal * gain → equal * gain < lacking + gain → IsLevelFor deficit gains (record { gain = gain; equal = equal; count = count + equal })
 found deficit gains gain lacking count many equal is many_is last enough up =
     let few = few_enough lacking gain many equal last up in
     record {
@@ -108,12 +108,12 @@ found deficit gains gain lacking count many equal is many_is last enough up =
 
 -- ---- at the level
 
-pub level_reaches : (deficit : ℕ) (gains : List ℕ) (level : Level) → IsLevel deficit gains level → Reaches deficit gains level.count
+pub level_reaches : (deficit : ℕ) (gains : List ℕ) (level : Level) → IsLevelFor deficit gains level → Reaches deficit gains level.count
 level_reaches deficit gains level is =
     let reached = most-reached level.gain level.count gains (let e = is.counted in omega (arith, e)) is.within in
     omega (arith, reached, is.enough)
 
-pub level_least : (deficit : ℕ) (gains : List ℕ) (level : Level) (i : ℕ) → IsLevel deficit gains level → Reaches deficit gains i → level.count ≤ i
+pub level_least : (deficit : ℕ) (gains : List ℕ) (level : Level) (i : ℕ) → IsLevelFor deficit gains level → Reaches deficit gains i → level.count ≤ i
 level_least deficit gains level i is reached = elim (cases_lt i level.count) [
   | inr le ↦ le
   | inl less ↦ elim is.none_spare [
@@ -137,7 +137,7 @@ all_reaching θ (x ∷ xs) =
 pub few_counted : (deficit : ℕ) (gains counts : List ℕ) (θ lacking count : ℕ) → AreCounts gains counts → IsSoFar deficit gains θ lacking count → count ≤ MOST_BALLOTS
 few_counted deficit gains counts θ lacking count are is = omega (arith, is.counted, reaching_is θ gains, all_reaching θ gains, are.few)
 
-pub few_at : (deficit : ℕ) (gains counts : List ℕ) (level : Level) → AreCounts gains counts → IsLevel deficit gains level → level.count ≤ MOST_BALLOTS
+pub few_at : (deficit : ℕ) (gains counts : List ℕ) (level : Level) → AreCounts gains counts → IsLevelFor deficit gains level → level.count ≤ MOST_BALLOTS
 few_at deficit gains counts level are is = omega (arith, is.within, all_reaching level.gain gains, are.few)
 
 pub counts_none : (deficit : ℕ) (gains counts : List ℕ) → AreCounts gains counts → IsSoFar deficit gains (length counts - 0) deficit 0
@@ -157,7 +157,7 @@ counts_more deficit gains counts key lacking count many same are lt same_is many
 pub counts_found : (deficit : ℕ) (gains counts : List ℕ) (key lacking count many same equal : ℕ) → AreCounts gains counts → key < length counts
     → same ≡ many → many ≡ slice_index counts key → lacking ≤ (length counts - key) * same → equal ≡ lacking / (length counts - key) + min 1 (lacking % (length counts - key))
     → IsSoFar deficit gains (length counts - key) lacking count
-    → IsLevel deficit gains (record { gain = length counts - key; equal = equal; count = count + equal })
+    → IsLevelFor deficit gains (record { gain = length counts - key; equal = equal; count = count + equal })
 counts_found deficit gains counts key lacking count many same equal are lt same_is many_is last equal_is is =
     let bounds = div_ceil_times lacking (length counts - key) (omega arith) in
     found deficit gains (length counts - key) lacking count many equal is (many_is ∙ are.each key lt)

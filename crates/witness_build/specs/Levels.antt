@@ -30,7 +30,7 @@ largest threshold count gains = count * threshold + add_up (λ gain. gain - thre
 
 -- all gains above the level's are counted, and as many as are left of those that equal it; together they make up the
 -- deficit, and with one fewer they don't
-pub record IsLevel (deficit : ℕ) (gains : List ℕ) (level : Level) : Type 0 where
+pub record IsLevelFor (deficit : ℕ) (gains : List ℕ) (level : Level) : Type 0 where
   pub counted : level.count ≡ add_up (above level.gain) gains + level.equal
   pub within : level.count ≤ add_up (reaching level.gain) gains
   pub enough : deficit ≤ largest level.gain level.count gains
@@ -83,4 +83,4 @@ greatest_under e (Pair g l) = gainer_points e g l (g ∷ []) + 1024
 -- the level of a goal in every election in which this is its ground
 abbrev pub IsLevelUnder : Ground → Level → Type 0
 IsLevelUnder start level =
-    (e : Election) → IsGroundIn e start → IsLevel (deficit_under e start.goal) (gains_under e start.goal) level
+    (e : Election) → IsGroundIn e start → IsLevelFor (deficit_under e start.goal) (gains_under e start.goal) level

@@ -1,5 +1,5 @@
--- The cheapest replacements that bring the gainer of a pair level with the loser, and the cheapest of the pairs into which the
--- root is split.
+-- The cheapest replacements that bring the gainer of a pair level with the loser, and the cheapest of the pairs into
+-- which the root is split.
 use Rattle.std.specs.Prelude.{◌≡◌, ℕ, ◌<◌, ◌≤◌, List, [], ◌∷◌, length, map, slice_index_or}
 use Rattle.ballot_form.specs.Alterations.{IsAlteration, after}
 use Rattle.goal_rows.specs.Elections.{Election}
@@ -14,7 +14,8 @@ pair_deficit e g l = deficit_of (gainer_points e g l) (loser_points e g l) e.pol
 
 -- how much closer each ballot brings the gainer where it is replaced by the one that ranks the gainer alone
 abbrev pub pair_gains : Election → ℕ → ℕ → List ℕ
-pair_gains e g l = map (gain_of (gainer_points e g l (g ∷ [])) (gainer_points e g l) (loser_points e g l)) e.poll.ballots
+pair_gains e g l =
+    map (gain_of (gainer_points e g l (g ∷ [])) (gainer_points e g l) (loser_points e g l)) e.poll.ballots
 
 -- the k largest gains make up what the gainer is behind
 abbrev pub PairReaches : Election → ℕ → ℕ → ℕ → Type 0
@@ -25,8 +26,8 @@ pub record IsLeastReach (e : Election) (g l k : ℕ) : Type 0 where
   pub reached : PairReaches e g l k
   pub least : (i : ℕ) → PairReaches e g l i → k ≤ i
 
--- the cheapest replacements of a pair: as few as bring it level, each by the ballot that ranks the gainer alone, of the ballots with
--- the largest gains, the lower number first at equal gains
+-- the cheapest replacements of a pair: as few as bring it level, each by the ballot that ranks the gainer alone, of the
+-- ballots with the largest gains, the lower number first at equal gains
 pub record IsPairWitness (e : Election) (g l : ℕ) (changes : List (ℕ × List ℕ)) : Type 0 where
   pub numbers : List ℕ
   pub puts : changes ≡ puts_of g numbers

@@ -2,7 +2,7 @@
 ghost use Rattle.std.specs.Prelude.{◌≡◌, ℕ, IfOk};
 ghost use Rattle.goal_rows.specs.Races.{IsRace, election_of, IsGroundIn};
 ghost use Rattle.goal_rows.specs.declared.goals.Goal.TheVariants.{Pair};
-ghost use Rattle.witness_build.specs.Levels.{IsLevel, first_from, gains_under};
+ghost use Rattle.witness_build.specs.Levels.{IsLevelFor, first_from, gains_under};
 
 use crate::levels::{Level, greatest_gain};
 use goal_rows::key;
@@ -13,8 +13,8 @@ use std::alloc::Global;
 /// The numbers of ballots, from 1.
 pub(crate) type NumberList = List<u32>;
 
-/// The numbers of all ballots whose gain is above the level's, and of the first ones whose gain is that, ascending. They
-/// are found in one pass over the ballots.
+/// The numbers of all ballots whose gain is above the level's, and of the first ones whose gain is that, ascending.
+/// They are found in one pass over the ballots.
 pub(crate) fn first_numbers(
     alloc: Global,
     race: &Race<'_>,

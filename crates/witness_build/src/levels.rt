@@ -3,7 +3,7 @@ ghost use Rattle.std.specs.Prelude.{◌≡◌, ◌<◌, ◌≤◌, ◌+◌, ◌*
 ghost use Rattle.mov_base.specs.Sums.{add_up};
 ghost use Rattle.goal_rows.specs.Elections.{Election};
 ghost use Rattle.goal_rows.specs.Races.{IsGroundIn, IsSomeGround};
-ghost use Rattle.witness_build.specs.Levels.{AreCounts, AreEnough, IsLevel, IsLevelUnder, below_zero, deficit_under, greatest_under, of_key};
+ghost use Rattle.witness_build.specs.Levels.{AreCounts, AreEnough, IsLevelFor, IsLevelUnder, below_zero, deficit_under, greatest_under, of_key};
 
 use ballot_form::MOST_BALLOTS;
 use goal_rows::parts::Ground;
@@ -11,8 +11,8 @@ use mov_base::Memory;
 use signature_class::Classes;
 use std::alloc::Global;
 
-/// How many replacements bring a pair level: all ballots whose gain is greater than `gain`, and `equal` of those whose gain is
-/// that, which are `count` together.
+/// How many replacements bring a pair level: all ballots whose gain is greater than `gain`, and `equal` of those whose
+/// gain is that, which are `count` together.
 #[derive(Clone, Copy, Drop)]
 pub(crate) struct Level {
     pub gain: u64,
@@ -79,7 +79,7 @@ fn level_at(counts: &[u32], deficit: u64) -> Level
     requires gains { (gains : List ℕ) × AreEnough deficit gains counts.now }
     requires some { 1 ≤ length counts.now }
     requires few { length counts.now ≤ 2048 }
-    ensures { (gains : List ℕ) → AreCounts gains counts.now → IsLevel deficit gains result }
+    ensures { (gains : List ℕ) → AreCounts gains counts.now → IsLevelFor deficit gains result }
 {
     let mut lacking = deficit;
     let mut count = 0;

@@ -26,8 +26,8 @@ pub struct Witness {
     pub changes: Alteration,
 }
 
-/// The cheapest replacements of a pair that is the root's: as few as bring it level, each by the ballot that ranks the gainer
-/// alone, of the ballots with the largest gains, the lower number first at equal gains.
+/// The cheapest replacements of a pair that is the root's: as few as bring it level, each by the ballot that ranks the
+/// gainer alone, of the ballots with the largest gains, the lower number first at equal gains.
 pub fn pair_witness(alloc: Global, race: &Race<'_>, goal: &Goal) -> Result<Witness, Memory>
     requires race { IsRace race.now }
     requires pair { (g : ℕ) × (l : ℕ) × (goal.now ≡ Pair g l) }

@@ -12,8 +12,8 @@ use goal_rows::parts::{Ground, Race};
 use mov_base::Memory;
 use std::alloc::Global;
 
-/// The cheapest replacements of the first root pair that the fewest bring level; none exactly where there is one candidate.
-/// The race has its own roots, and they are pairs.
+/// The cheapest replacements of the first root pair that the fewest bring level; none exactly where there is one
+/// candidate. The race has its own roots, and they are pairs.
 pub fn start_witness(alloc: Global, race: &Race<'_>) -> Result<Option<Witness>, Memory>
     requires race { IsRace race.now }
     requires own { race.now.roots ≡ root_goals race.now.rule race.now.roll.now.c race.now.reported }

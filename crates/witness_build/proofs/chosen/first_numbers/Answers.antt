@@ -1,8 +1,8 @@
-use Rattle.std.proofs.Common.{◌≡◌, ◌≤◌, ◌<◌, ◌-◌, ◌+◌, ◌++◌, ◌∷◌, [], ◌∙◌, length, ap, subst, sym, arith}
+use Rattle.std.proofs.Common.{◌≡◌, ◌-◌, ◌+◌, ◌++◌, ◌∷◌, [], ◌∙◌, ap, arith}
 use Rattle.goal_rows.specs.Races.{election_of}
 use Rattle.witness_build.specs.Levels.{gains_under, first_from}
 use Rattle.witness_build.proofs.Grounds.{gained_at, length_under}
-use Rattle.witness_build.proofs.Picks.{IsPicked, passed_over, picked_all, picked_greater, picked_level}
+use Rattle.witness_build.proofs.Picks.{passed_over, picked_all, picked_greater, picked_level}
 use Rattle.witness_build.proofs.chosen.first_numbers.Goals as goal
 use Rattle.witness_build.proofs.chosen.first_numbers.Goals.{then-gain-level+in_ok-push, else-gain-level+then-gain-level-2+then-equal-gt0+in_ok-push-2, else-gain-level+else-gain-level-2, else-gain-level-2-via-then-gain-level-2+else-equal-gt0, else-gain-level-2-via-else-gain-level-2}
 

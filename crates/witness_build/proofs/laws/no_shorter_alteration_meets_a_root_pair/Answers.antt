@@ -1,5 +1,4 @@
 use Rattle.witness_build.proofs.Cheapest.{no_shorter}
-use Rattle.witness_build.proofs.Grounds.{counted_gains}
 use Rattle.witness_build.proofs.laws.no_shorter_alteration_meets_a_root_pair.Goals as goal
 
 pub returns : goal.returns

@@ -1,6 +1,6 @@
-use Rattle.std.proofs.Common.{arith, rules, ◌≡◌, ◌<◌, ◌≤◌, ◌+◌, length, get_or, set, length-set, ap, ◌∙◌}
+use Rattle.std.proofs.Common.{arith, ◌≡◌, ◌<◌, ◌≤◌, ◌+◌, length, get_or, set, length-set, ap, ◌∙◌}
 use Rattle.std.proofs.lemmas.List.{get_or_default}
-use Rattle.witness_build.proofs.Tables.{tabled_all, tabled_few, tabled_more, tabled_passed}
+use Rattle.witness_build.proofs.Tables.{tabled_few, tabled_more, tabled_passed}
 use Rattle.witness_build.proofs.levels.counts_by_key.Goals as goal
 use Rattle.witness_build.proofs.levels.counts_by_key.Goals.{then-key-len, else-key-len}
 

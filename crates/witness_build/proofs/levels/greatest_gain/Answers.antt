@@ -1,4 +1,4 @@
-use Rattle.std.proofs.Common.{◌≡◌, arith}
+use Rattle.std.proofs.Common.{arith}
 use Rattle.witness_build.proofs.Grounds.{lone_of, lone_size}
 use Rattle.witness_build.proofs.levels.greatest_gain.Goals as goal
 

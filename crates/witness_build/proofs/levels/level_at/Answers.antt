@@ -1,4 +1,4 @@
-use Rattle.std.proofs.Common.{arith, rules, refl, ◌≤◌, ◌<◌, ◌≡◌, ◌*◌, ◌-◌, length}
+use Rattle.std.proofs.Common.{arith, refl}
 use Rattle.std.specs.Prelude.{slice_index}
 use Rattle.witness_build.proofs.Thresholds.{counts_all, counts_found, counts_more, counts_none, few_at, few_counted}
 use Rattle.witness_build.proofs.levels.level_at.Goals as goal

@@ -1,4 +1,4 @@
-use Rattle.std.proofs.Common.{ℕ, List, ◌<◌, ◌≤◌, ◌-◌, length}
+use Rattle.std.proofs.Common.{ℕ, List, ◌<◌, ◌-◌, length}
 use Rattle.witness_build.specs.Levels.{AreCounts}
 use Rattle.witness_build.proofs.Thresholds.{IsSoFar}
 use Rattle.witness_build.proofs.levels.level_at.Given as goal

@@ -1,8 +1,6 @@
-use Rattle.std.proofs.Common.{ℕ, ◌≡◌, ◌<◌, ◌∙◌, length, slice_index, sym, ap, subst, arith, rules}
+use Rattle.std.proofs.Common.{◌≡◌, ◌∙◌, length, slice_index, sym, ap, subst, arith}
 use Rattle.mov_base.specs.Sums.{add_up}
-use Rattle.goal_rows.specs.Elections.{Election}
-use Rattle.goal_rows.specs.Races.{IsGroundIn}
-use Rattle.witness_build.specs.Levels.{AreEnough, IsLevel, deficit_under, gains_under, of_key}
+use Rattle.witness_build.specs.Levels.{AreEnough, IsLevelFor, gains_under, of_key}
 use Rattle.witness_build.proofs.Grounds.{counted_gains, few_classes}
 use Rattle.witness_build.proofs.levels.level_of.Goals as goal
 
@@ -25,4 +23,4 @@ returns c = λ e is.
     let size : length c.as_slice.result.now ≡ c.greatest_gain-end.result = ap length items ∙ c.in_ok-counts.ensures.size in
     let are = counted_gains e c.args.start.now c.as_slice.result.now is (size ∙ c.greatest_gain-end.ensures.value e is)
     (λ k lt. subst (λ xs. slice_index xs k ≡ add_up (of_key k) c.args.start.now.classes) (sym items) (c.in_ok-counts.ensures.each k (omega (arith, lt, size)))) in
-    subst (λ n. IsLevel n (gains_under e c.args.start.now.goal) c.level_at.result) (c.behind.ensures e is) (c.level_at.ensures (gains_under e c.args.start.now.goal) are.counted)
+    subst (λ n. IsLevelFor n (gains_under e c.args.start.now.goal) c.level_at.result) (c.behind.ensures e is) (c.level_at.ensures (gains_under e c.args.start.now.goal) are.counted)

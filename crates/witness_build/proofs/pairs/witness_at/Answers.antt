@@ -1,11 +1,8 @@
-use Rattle.std.proofs.Common.{◌≡◌, ◌∙◌, List, ap, sym, subst, rules}
+use Rattle.std.proofs.Common.{◌≡◌, ◌∙◌, ap, sym, subst}
 use Rattle.alteration_model.specs.Faults.{pairs_of}
-use Rattle.ballot_form.specs.Alterations.{IsAlteration}
 use Rattle.goal_rows.specs.Pairs.{puts_of}
 use Rattle.goal_rows.specs.Races.{election_of}
-use Rattle.goal_rows.specs.declared.goals.Goal.{Goal}
 use Rattle.witness_build.specs.Levels.{first_from, gains_under}
-use Rattle.witness_build.specs.Witnesses.{IsMetBy, IsWitnessOf}
 use Rattle.witness_build.proofs.Cheapest.{AreBuilt, built}
 use Rattle.witness_build.proofs.pairs.witness_at.Goals as goal
 
@@ -14,7 +11,7 @@ from_puts-requires c =
     let e = election_of c.args.race.now in
     let gains = gains_under e c.args.start.now.goal in
     let puts_are : pairs_of c.as_slice-2.result.now ≡ puts_of c.in-Pair.gainer (first_from c.args.level.gain c.args.level.equal 1 gains) =
-        ap pairs_of c.as_slice-2.ensures.value ∙ c.in_ok-puts.ensures ∙ ap (puts_of c.in-Pair.gainer) (c.as_slice.ensures ∙ c.in_ok-numbers.ensures) in
+    ap pairs_of c.as_slice-2.ensures.value ∙ c.in_ok-puts.ensures ∙ ap (puts_of c.in-Pair.gainer) (c.as_slice.ensures ∙ c.in_ok-numbers.ensures) in
     (built e c.args.start.now c.in-Pair.gainer c.in-Pair.field-1 c.args.level (pairs_of c.as_slice-2.result.now) c.requires.start c.in-Pair.is c.requires.level puts_are).met.alteration
 
 are_built : (c : goal.After-drop-numbers-inside-2) → AreBuilt (election_of c.args.race.now) c.in_ok-goal.goal c.args.level c.in_ok-changes.changes
@@ -22,7 +19,7 @@ are_built c =
     let e = election_of c.args.race.now in
     let gains = gains_under e c.args.start.now.goal in
     let changes_are : c.in_ok-changes.changes ≡ puts_of c.in-Pair.gainer (first_from c.args.level.gain c.args.level.equal 1 gains) =
-        c.in_ok-changes.ensures ∙ ap pairs_of c.as_slice-2.ensures.value ∙ c.in_ok-puts.ensures ∙ ap (puts_of c.in-Pair.gainer) (c.as_slice.ensures ∙ c.in_ok-numbers.ensures) in
+    c.in_ok-changes.ensures ∙ ap pairs_of c.as_slice-2.ensures.value ∙ c.in_ok-puts.ensures ∙ ap (puts_of c.in-Pair.gainer) (c.as_slice.ensures ∙ c.in_ok-numbers.ensures) in
     subst (λ at. AreBuilt e at c.args.level c.in_ok-changes.changes) (sym c.in_ok-goal.ensures)
     (built e c.args.start.now c.in-Pair.gainer c.in-Pair.field-1 c.args.level c.in_ok-changes.changes c.requires.start c.in-Pair.is c.requires.level changes_are)
 

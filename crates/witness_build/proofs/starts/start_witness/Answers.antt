@@ -1,4 +1,4 @@
-use Rattle.std.proofs.Common.{ℕ, ◌≡◌, length, refl, subst, arith}
+use Rattle.std.proofs.Common.{◌≡◌, length, refl, subst, arith}
 use Rattle.goal_rows.specs.Races.{election_of}
 use Rattle.witness_build.specs.Nearest.{IsNearestSoFar, IsNearestUpTo}
 use Rattle.witness_build.proofs.Nearby.{pair_of_nearest, started}
