@@ -10,5 +10,5 @@ mod certs;
 mod limits;
 mod margins;
 
-pub use limits::LEAST_BUDGET;
+pub use limits::{DEFAULT_BUDGET, LEAST_BUDGET};
 pub use margins::margin;

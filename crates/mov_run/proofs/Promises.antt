@@ -20,11 +20,11 @@ use Rattle.mov_run.proofs.Delivered.{done_of, memory_of}
 use Rattle.mov_run.proofs.Told.{ballots_answer}
 
 writes_margin : (old new : Outside) (words : List (List ℕ)) (s : Status) → Ran old new words s → WritesMargin old new words s
-writes_margin old new words s ran file k job told untroubled = elim ran.allowed [
+writes_margin old new words s ran rule file k job told untroubled = elim ran.allowed [
   | inr m ↦ absurd (untroubled.memory (memory_of old new s ran.answer m.0.0 ran.delivered))
   | inl by ↦
-      let answers : Answers (source_of old new) (Margin Plurality file) ran.answer = rw job at by in
-      let made = ballots_answer old new file k IsCertified ran.answer told untroubled.reads answers in
+      let answers : Answers (source_of old new) (Margin rule file) ran.answer = rw job at by in
+      let made = ballots_answer old new file k (IsCertified rule) ran.answer told untroubled.reads answers in
       (made.0, made.1, made.2, made.3, done_of old new s ran.answer made.1 made.4 ran.delivered untroubled)
 ]
 

@@ -123,7 +123,7 @@ cert_shape src file name k a contest begun (inr good) = verdict_shape src file n
 
 job_shape : (src : Source) (job : Job) (a : Answer) → Answers src job a → JobShape src (Ok job) a
 job_shape src (Tally rule file) a by = ballots_shape src (Ok (Tally rule file)) file (IsTallied rule) a refl (omega arith) (λ k made. (made.0, made.2)) by
-job_shape src (Margin rule file) a by = ballots_shape src (Ok (Margin rule file)) file IsCertified a refl (omega arith) (λ k made. (made.1, made.4)) by
+job_shape src (Margin rule file) a by = ballots_shape src (Ok (Margin rule file)) file (IsCertified rule) a refl (omega arith) (λ k made. (made.1, made.4)) by
 job_shape src (Check file name) a by =
     contest_shape src (Ok (Check file name)) file (λ k a. IsContestFile src file k × Began src 2 × OverCert src name (λ cert a. IsChecked k cert a) a) a refl
     (λ k over. cert_shape src file name k a over.0 over.1 over.2) by

@@ -5,6 +5,7 @@ use Rattle.ballot_csv.specs.PlainForm.{plain_form}
 use Rattle.ballot_form.specs.declared.rule.Rule.{Rule}
 use Rattle.cert_text.specs.CertText.{CertText}
 use Rattle.margin_solve.specs.Certificates.{IsCertOf}
+use Rattle.margin_solve.specs.declared.limits.TheConstants.{DEFAULT_BUDGET}
 use Rattle.margin_check.specs.Meanings.{ClaimIsTrue}
 use Rattle.margin_check.specs.Validity.{IsValidCert}
 use Rattle.margin_check.specs.Verdicts.{IsJudged, IsRefusal}
@@ -67,9 +68,9 @@ abbrev pub IsTallied : Rule → NamedPoll → Answer → Type 0
 IsTallied rule k a = (text : List ℕ) × IsTally rule k text × (a ≡ Ok (record { ends = Done; text = text }))
 
 -- the answer of a margin: the text of its certificate
-abbrev pub IsCertified : NamedPoll → Answer → Type 0
-IsCertified k a =
-    (cert : Cert) × (text : List ℕ) × IsCertOf k.poll cert × CertText text cert
+abbrev pub IsCertified : Rule → NamedPoll → Answer → Type 0
+IsCertified rule k a =
+    (cert : Cert) × (text : List ℕ) × IsCertOf rule DEFAULT_BUDGET k.poll cert × CertText text cert
     × (a ≡ Ok (record { ends = Done; text = text }))
 
 -- the answer of a check: the text of the verdict
@@ -87,7 +88,7 @@ IsShown k a = a ≡ Ok (record { ends = Done; text = plain_form k })
 -- the answers of a job, want of memory aside
 abbrev pub Answers : Source → Job → Answer → Type 0
 Answers s (Tally rule file) a = OverBallots s file (IsTallied rule) a
-Answers s (Margin rule file) a = OverBallots s file IsCertified a
+Answers s (Margin rule file) a = OverBallots s file (IsCertified rule) a
 Answers s (Check file other) a = OverBoth s file other IsChecked a
 Answers s (Show file) a = OverBallots s file IsShown a
 

@@ -8,6 +8,7 @@ use Rattle.ballot_form.specs.declared.rule.Rule.{Rule}
 use Rattle.cert_text.specs.CertReading.{cert_at}
 use Rattle.cert_text.specs.CertText.{CertText}
 use Rattle.margin_solve.specs.Certificates.{IsCertOf}
+use Rattle.margin_solve.specs.declared.limits.TheConstants.{DEFAULT_BUDGET}
 use Rattle.margin_check.specs.Meanings.{ClaimIsTrue}
 use Rattle.margin_check.specs.Validity.{IsValidCert}
 use Rattle.margin_check.specs.Verdicts.{IsJudged, IsRefusal}
@@ -73,11 +74,12 @@ pub record WritesVerdict (old new : Outside) (words : List (List ℕ)) (s : Stat
 
 -- ---- the other commands
 
--- the headline: `margin plurality` of a told and accepted file writes the certificate of its contest
+-- the headline: `margin` of a told and accepted file under a rule that it knows writes the certificate of its contest
 abbrev pub WritesMargin : Outside → Outside → List (List ℕ) → Status → Type 0
 WritesMargin old new words s =
-    (file : List ℕ) (k : NamedPoll) → meaning words ≡ Ok (Margin Plurality file) → IsToldContest old file k → IsUntroubled old new s →
-    (cert : Cert) × (text : List ℕ) × IsCertOf k.poll cert × CertText text cert × IsDone old new s text
+    (rule : Rule) (file : List ℕ) (k : NamedPoll) → meaning words ≡ Ok (Margin rule file) → IsToldContest old file k →
+    IsUntroubled old new s →
+    (cert : Cert) × (text : List ℕ) × IsCertOf rule DEFAULT_BUDGET k.poll cert × CertText text cert × IsDone old new s text
 
 -- `tally` of a told and accepted file under a rule writes the text of the tally of its contest
 abbrev pub WritesTally : Outside → Outside → List (List ℕ) → Status → Type 0

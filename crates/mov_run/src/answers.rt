@@ -1,6 +1,7 @@
 // The answer of each command.
 ghost use Rattle.std.specs.Prelude.{◌≡◌, IfOk};
 ghost use Rattle.ballot_form.specs.Rules.{IsRule};
+ghost use Rattle.margin_check.specs.Verdicts.{IsJudged};
 ghost use Rattle.mov_run.specs.Inputs.{found};
 ghost use Rattle.mov_run.specs.Jobs.{AnswersOrMemory};
 
@@ -14,13 +15,10 @@ use ballot_csv::print_ballots;
 use ballot_form::{Rule, Text};
 use cert_text::print_cert;
 use margin_check::check;
-use margin_solve::margin;
+use margin_solve::{DEFAULT_BUDGET, margin};
 use mov_base::List;
 use mov_edge::Files;
 use std::alloc::Global;
-
-/// The most nodes of a tree that a search may grow.
-const BUDGET: u32 = 20_000;
 
 /// The tally of the contest in a ballot file.
 pub(crate) fn tally_answer<F: Files>(
@@ -45,16 +43,19 @@ pub(crate) fn tally_answer<F: Files>(
 /// The certificate of the contest in a ballot file.
 pub(crate) fn margin_answer<F: Files>(
     alloc: Global,
+    rule: Rule,
     file: &Text,
     files: &mut F,
 ) -> Result<Output, RunFault>
+    requires lawful { IsRule rule }
+    requires judged { IsJudged rule }
     ensures answers { AnswersOrMemory
-        (found F.told F.at F.begun F.faults files.old files.new) (Job.Margin Rule.Plurality file.now) result }
+        (found F.told F.at F.begun F.faults files.old files.new) (Job.Margin rule file.now) result }
     ensures told { F.told files.new ≡ F.told files.old }
     ensures kept { IfOk result (λ _. F.faults files.new ≡ F.faults files.old) }
 {
     let contest = load_contest(alloc, files, file)?;
-    let cert = margin(alloc, &contest, Rule::Plurality, BUDGET)?;
+    let cert = margin(alloc, &contest, rule, DEFAULT_BUDGET)?;
     Ok(Output {
         ends: Status::Done,
         text: List::from_vec(print_cert(alloc, &cert)?),
