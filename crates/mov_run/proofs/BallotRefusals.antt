@@ -1,6 +1,6 @@
 -- What a job ends with whose ballot file is told or known to be absent.
 use Rattle.std.proofs.Common.{ℕ, List, ◌≡◌, ◌≤◌, ◌<◌, ◌⊎◌, ◌∙◌, length, refl, sym, ap, subst, inl, inr, arith}
-use Rattle.std.specs.Prelude.{Ok, Err}
+use Rattle.std.specs.Prelude.{Ok}
 use Rattle.mov_edge.specs.Outside.{Lacks, Rose, Tells}
 use Rattle.ballot_csv.specs.BallotFile.{IsFaulty, NamedPoll, read_of}
 use Rattle.ballot_csv.specs.declared.fault.BallotFault.{BallotFault}

@@ -12,7 +12,7 @@ use Rattle.margin_check.specs.declared.verdict.Reason.{Reason}
 use Rattle.margin_check.specs.declared.verdict.Verdict.{Verdict}
 use Rattle.margin_check.specs.declared.verdict.Verdict.TheVariants.{Valid, No}
 use Rattle.cert_text.specs.declared.limits.TheConstants.{LONGEST_TEXT}
-use Rattle.mov_run.specs.Jobs.{Answers, IsChecked, IsVerdict, OverCert}
+use Rattle.mov_run.specs.Jobs.{Answers, IsChecked, IsVerdict}
 use Rattle.mov_run.specs.Inputs.{HasNoCert, IsCertFile}
 use Rattle.mov_run.specs.Promised.{ChecksOver, SaysRefused, SaysValid, WritesVerdict}
 use Rattle.mov_run.specs.Run.{IsToldCert, EndsWith, IsRefused, IsUntroubled, Outside, Ran, EndsEarly, source_of}

@@ -1,18 +1,12 @@
 -- From what a run leaves to what it promises.
-use Rattle.std.proofs.Common.{ℕ, List, ◌≡◌, inl, inr}
-use Rattle.std.specs.Prelude.{Ok}
+use Rattle.std.proofs.Common.{ℕ, List, inl, inr}
 use Rattle.ballot_csv.specs.PlainForm.{plain_form}
 use Rattle.ballot_form.specs.declared.rule.Rule.TheVariants.{Plurality}
-use Rattle.cert_text.specs.CertText.{CertText}
-use Rattle.cert_text.specs.declared.cert.Cert.{Cert}
-use Rattle.margin_solve.specs.Certificates.{IsCertOf}
 use Rattle.mov_run.specs.Jobs.{Answers, IsCertified, IsShown, IsTallied}
 use Rattle.mov_run.specs.Promised.{Promised, WritesMargin, WritesPlain, WritesTally}
 use Rattle.mov_run.specs.Run.{Outside, Ran, source_of}
-use Rattle.mov_run.specs.Tally.{IsTally}
 use Rattle.mov_run.specs.declared.jobs.Job.TheVariants.{Tally, Margin, Show}
 use Rattle.mov_run.specs.declared.runs.Status.{Status}
-use Rattle.mov_run.specs.declared.runs.Status.TheVariants.{Done}
 use Rattle.mov_run.proofs.BallotRefusals.{refuses}
 use Rattle.mov_run.proofs.Causes.{causes}
 use Rattle.mov_run.proofs.CertChecks.{writes_verdict}
