@@ -33,9 +33,13 @@ length-puts g numbers = length-map numbers _
 as_many_at : (deficit : ℕ) (gains : List ℕ) (level : Level) → IsLevelFor deficit gains level → HasAsMany level.gain level.equal gains
 as_many_at deficit gains level is = omega (arith, is.counted, is.within)
 
+-- as many are chosen as the level counts
+pub chosen_size : (deficit : ℕ) (gains : List ℕ) (level : Level) → IsLevelFor deficit gains level → length (first_from level.gain level.equal 1 gains) ≡ level.count
+chosen_size deficit gains level is = length-first level.gain level.equal 1 gains (as_many_at deficit gains level is) ∙ sym is.counted
+
 pub length-at : (e : Election) (g l : ℕ) (level : Level) → IsLevelFor (pair_deficit e g l) (pair_gains e g l) level → length (puts_of g (numbers_at e g l level)) ≡ level.count
 length-at e g l level is =
-    length-puts g (numbers_at e g l level) ∙ length-first level.gain level.equal 1 (pair_gains e g l) (as_many_at (pair_deficit e g l) (pair_gains e g l) level is) ∙ sym is.counted
+    length-puts g (numbers_at e g l level) ∙ chosen_size (pair_deficit e g l) (pair_gains e g l) level is
 
 pub alteration_at : (e : Election) (g l : ℕ) (level : Level) → IsRootOf e (Pair g l) → IsAlteration e.poll (puts_of g (numbers_at e g l level))
 alteration_at e g l level root = alters e.poll.c g level.gain level.equal 1 (length e.poll.ballots) (pair_gains e g l) root.1 (omega (arith, length-gains e g l))

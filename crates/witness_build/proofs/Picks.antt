@@ -1,5 +1,5 @@
 -- One ballot more on the way to those with the largest gains.
-use Rattle.std.proofs.Common.{ℕ, suc, List, [], ◌∷◌, ◌++◌, ◌≡◌, ◌<◌, ◌≤◌, ◌+◌, ◌-◌, ◌∙◌, sym, ap, length, get_or, drop, drop-cons, append_assoc, append-nil, arith}
+use Rattle.std.proofs.Common.{ℕ, suc, List, [], ◌∷◌, ◌++◌, ◌≡◌, ◌<◌, ◌≤◌, ◌+◌, ◌-◌, ◌∙◌, sym, ap, length, get_or, drop, drop-cons, append_assoc, append-nil, length-append, refl, arith}
 use Rattle.std.proofs.lemmas.List.{drop_all}
 use Rattle.witness_build.specs.Levels.{first_from}
 use Rattle.witness_build.proofs.Largest.{from_greater, from_level, from_passed}
@@ -39,3 +39,15 @@ pub picked_all : (θ equal i : ℕ) (numbers gains whole : List ℕ) → length 
 picked_all θ equal i numbers gains whole past so_far =
     let none = drop_all i gains past in
     sym (append-nil numbers) ∙ (rw none at so_far)
+
+none_long : (xs : List ℕ) → length xs ≡ 0 → xs ≡ []
+none_long [] none = refl
+none_long (x ∷ xs) none = absurd (omega (arith, none))
+
+-- as many as are to be chosen are
+pub picked_enough : (θ equal i : ℕ) (numbers gains whole : List ℕ) → length numbers ≡ length whole → IsPicked θ equal i numbers gains whole → numbers ≡ whole
+picked_enough θ equal i numbers gains whole size so_far =
+    let rest = first_from θ equal (i + 1) (drop i gains) in
+    let both = length-append numbers rest in
+    let none : rest ≡ [] = none_long rest (omega (arith, ap length so_far, both, size)) in
+    sym (append-nil numbers) ∙ ap (λ xs. numbers ++ xs) (sym none) ∙ so_far

@@ -2,7 +2,7 @@
 ghost use Rattle.std.specs.Prelude.{◌≡◌, ℕ, IfOk};
 ghost use Rattle.goal_rows.specs.Races.{IsRace, election_of, IsGroundIn};
 ghost use Rattle.goal_rows.specs.declared.goals.Goal.TheVariants.{Pair};
-ghost use Rattle.witness_build.specs.Levels.{IsLevelFor, first_from, gains_under};
+ghost use Rattle.witness_build.specs.Levels.{IsLevelUnder, first_from, gains_under};
 
 use crate::levels::{Level, greatest_gain};
 use goal_rows::key;
@@ -14,7 +14,7 @@ use std::alloc::Global;
 pub(crate) type NumberList = List<u32>;
 
 /// The numbers of all ballots whose gain is above the level's, and of the first ones whose gain is that, ascending.
-/// They are found in one pass over the ballots.
+/// They are found in one pass over the ballots, which ends with the last of them.
 pub(crate) fn first_numbers(
     alloc: Global,
     race: &Race<'_>,
@@ -24,6 +24,7 @@ pub(crate) fn first_numbers(
     requires race { IsRace race.now }
     requires start { IsGroundIn (election_of race.now) start.now }
     requires pair { (g : ℕ) × (l : ℕ) × (start.now.goal ≡ Pair g l) }
+    requires level { IsLevelUnder start.now level }
     ensures { IfOk result (λ numbers.
         numbers ≡ first_from level.gain level.equal 1 (gains_under (election_of race.now) start.now.goal)) }
 {
@@ -31,6 +32,9 @@ pub(crate) fn first_numbers(
     let mut equal = level.equal;
     let mut numbers = Vec::with_capacity(alloc, level.count as usize)?;
     for i in 0..race.roll.len() {
+        if numbers.len() == level.count as usize {
+            break;
+        }
         let gain = greatest - key(race, &start.goal, race.roll.row(i));
         if gain > level.gain {
             numbers.push(i + 1)?;

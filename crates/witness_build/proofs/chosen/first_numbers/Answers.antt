@@ -1,10 +1,11 @@
-use Rattle.std.proofs.Common.{◌≡◌, ◌-◌, ◌+◌, ◌++◌, ◌∷◌, [], ◌∙◌, ap, arith}
+use Rattle.std.proofs.Common.{◌≡◌, ◌-◌, ◌+◌, ◌++◌, ◌∷◌, [], ◌∙◌, length, ap, arith, rules}
 use Rattle.goal_rows.specs.Races.{election_of}
-use Rattle.witness_build.specs.Levels.{gains_under, first_from}
+use Rattle.witness_build.specs.Levels.{deficit_under, gains_under, first_from}
+use Rattle.witness_build.proofs.Cheapest.{chosen_size}
 use Rattle.witness_build.proofs.Grounds.{gained_at, length_under}
-use Rattle.witness_build.proofs.Picks.{passed_over, picked_all, picked_greater, picked_level}
+use Rattle.witness_build.proofs.Picks.{passed_over, picked_all, picked_enough, picked_greater, picked_level}
 use Rattle.witness_build.proofs.chosen.first_numbers.Goals as goal
-use Rattle.witness_build.proofs.chosen.first_numbers.Goals.{then-gain-level+in_ok-push, else-gain-level+then-gain-level-2+then-equal-gt0+in_ok-push-2, else-gain-level+else-gain-level-2, else-gain-level-2-via-then-gain-level-2+else-equal-gt0, else-gain-level-2-via-else-gain-level-2}
+use Rattle.witness_build.proofs.chosen.first_numbers.Goals.{else-loop-i-test, then-loop-i-test+then-len-level, then-gain-level+in_ok-push, else-gain-level+then-gain-level-2+then-equal-gt0+in_ok-push-2, else-gain-level+else-gain-level-2, else-gain-level-2-via-then-gain-level-2+else-equal-gt0, else-gain-level-2-via-else-gain-level-2}
 
 pub overflow_sub-gain : goal.overflow_sub-gain
 overflow_sub-gain c =
@@ -45,5 +46,12 @@ returns c =
     let gains = gains_under e c.args.start.now.goal in
     let whole = first_from c.args.level.gain c.args.level.equal 1 gains in
     let size = length_under e c.args.start.now.goal c.requires.pair.0 c.requires.pair.1 c.requires.pair.2 in
-    c.from_vec.ensures ∙ picked_all c.args.level.gain c.loop-i.equal c.loop-i.i c.loop-i.numbers.items gains whole
-    (let n = c.len-i-end.ensures.value in omega (arith, n, size, c.loop-i-test.false)) c.loop-i.invariant
+    c.from_vec.ensures ∙ elim c.loop-i-test.branch [
+      | else-loop-i-test w ↦ picked_all c.args.level.gain c.loop-i.equal c.loop-i.i c.loop-i.numbers.items gains whole
+          (let n = c.len-i-end.ensures.value in let t = w.loop-i-test.false in omega (arith, n, size, t)) c.loop-i.invariant
+      | then-loop-i-test+then-len-level w ↦
+          let count : w.len.result ≡ length c.loop-i.numbers.items = search rules in
+          let all = chosen_size (deficit_under e c.args.start.now.goal) gains c.args.level (c.requires.level e c.requires.start) in
+          let full = w.if-len-level.true in
+          picked_enough c.args.level.gain c.loop-i.equal c.loop-i.i c.loop-i.numbers.items gains whole (omega (arith, count, all, full)) c.loop-i.invariant
+    ]
