@@ -1,15 +1,13 @@
 -- Where the cheapest replacements of the root's pairs are so many, a cut with the multiplier 1 for each pair shows it.
-use Rattle.std.proofs.Common.{ℕ, zero, suc, List, [], ◌∷◌, All, Some, ◌≡◌, ◌<◌, ◌≤◌, ◌+◌, ◌-◌, ◌*◌, ◌∙◌, length, map, ap, sym, refl, subst, inl, inr, arith}
+use Rattle.std.proofs.Common.{ℕ, zero, suc, List, [], ◌∷◌, All, ◌≡◌, ◌<◌, ◌≤◌, ◌+◌, ◌-◌, ◌*◌, ◌∙◌, length, map, ap, refl, inl, inr, arith}
 use Rattle.std.specs.Prelude.{ℤ, pos, ◌+ℤ◌, ◌-ℤ◌, ◌*ℤ◌, ◌<ℤ◌, slice_index_or}
 use Rattle.std.proofs.lemmas.Int.{ints}
 use Rattle.std.proofs.lemmas.List.{get_or_default}
 use Rattle.std.proofs.lemmas.Bool.{cases_lt}
 use Rattle.mov_base.specs.Sums.{add_up, most, sum_z}
 use Rattle.mov_base.proofs.Signed.{sum_z-difference}
-use Rattle.ballot_form.specs.Alterations.{IsAlteration}
 use Rattle.bound_tree.specs.Growth.{cuts_of}
-use Rattle.bound_tree.specs.Plain.{Plain, Split, Cut}
-use Rattle.goal_rows.specs.Elections.{Election, Node}
+use Rattle.goal_rows.specs.Elections.{Election}
 use Rattle.goal_rows.specs.Goals.{IsElection, IsRootOf, gainer_points, loser_points, pair_weight}
 use Rattle.goal_rows.specs.Nodes.{without_limits}
 use Rattle.goal_rows.specs.Races.{key_of, keys_of}
@@ -17,10 +15,9 @@ use Rattle.goal_rows.specs.declared.goals.Goal.{Goal}
 use Rattle.goal_rows.specs.declared.goals.Goal.TheVariants.{Root, Pair}
 use Rattle.goal_rows.proofs.PairPoints.{ArePairPoints, pair_points}
 use Rattle.dual_bound.specs.CutTest.{Cuts}
-use Rattle.dual_bound.specs.Largest.{CutsAt}
 use Rattle.dual_bound.proofs.Exact.{one_pair}
 use Rattle.margin_check.specs.Proving.{ProveAll, Proves}
-use Rattle.margin_solve.specs.Certificates.{split_for, tree_for}
+use Rattle.margin_solve.specs.Certificates.{tree_for}
 use Rattle.witness_build.specs.Witnesses.{IsStartWitness, PairReaches, pair_deficit, pair_gains}
 
 -- the gains by keys are those of the pair

@@ -1,21 +1,19 @@
 -- The certificates that are made are those of their contest.
-use Rattle.std.proofs.Common.{ℕ, List, [], ◌∷◌, Some, ◌≡◌, ◌<◌, ◌≤◌, ◌+◌, ◌∙◌, ◌⊎◌, Option, All, length, map, ap, sym, refl, subst, inl, inr, arith}
+use Rattle.std.proofs.Common.{ℕ, List, [], Some, ◌≡◌, ◌<◌, ◌≤◌, ◌+◌, ◌∙◌, ◌⊎◌, Option, length, ap, sym, refl, subst, inl, inr, arith}
 use Rattle.std.specs.Prelude.{None as Nothing}
 use Rattle.std.specs.Prelude.{slice_index_or}
 use Rattle.std.proofs.lemmas.List.{length-map}
 use Rattle.alteration_model.specs.Faults.{pairs_of}
 use Rattle.alteration_model.specs.declared.puts.Put.{Put}
-use Rattle.alteration_model.proofs.Judged.{no_longer}
 use Rattle.ballot_form.specs.Alterations.{IsAlteration, after}
-use Rattle.ballot_form.specs.Ballots.{IsPoll, Poll}
-use Rattle.bound_tree.specs.Plain.{Plain}
+use Rattle.ballot_form.specs.Ballots.{Poll}
 use Rattle.cert_text.specs.CertText.{BodyFits, ClaimFits, IsPrintable}
 use Rattle.cert_text.specs.declared.cert.Cert.{Cert}
 use Rattle.cert_text.specs.declared.cert.Claim.TheVariants.{Margin, Fixed}
 use Rattle.cert_text.specs.declared.cert.GoalText.{GoalText}
 use Rattle.cert_text.specs.declared.cert.GoalText.TheVariants.{Pair}
 use Rattle.goal_rows.specs.Elections.{Election}
-use Rattle.goal_rows.specs.Goals.{Holds, IsComplete, IsElection, IsRootOf, root_goals}
+use Rattle.goal_rows.specs.Goals.{IsElection, IsRootOf, root_goals}
 use Rattle.goal_rows.specs.Nodes.{without_limits}
 use Rattle.goal_rows.specs.Outcomes.{IsReported}
 use Rattle.goal_rows.specs.Races.{IsRace, election_of}

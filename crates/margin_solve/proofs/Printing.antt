@@ -1,5 +1,5 @@
 -- Certificates of contests that are decided by pairs are within the limits of their text.
-use Rattle.std.proofs.Common.{ℕ, zero, suc, List, [], ◌∷◌, ◌++◌, Some, None, Option, ◌≡◌, ◌<◌, ◌≤◌, ◌+◌, ◌∙◌, length, map, take, slice_get, All, replicate, sym, refl, ap, subst, inl, inr, arith}
+use Rattle.std.proofs.Common.{ℕ, zero, suc, List, [], ◌∷◌, ◌++◌, Some, None, Option, ◌≡◌, ◌<◌, ◌≤◌, ◌+◌, ◌∙◌, length, map, take, slice_get, All, replicate, sym, refl, ap, subst, arith}
 use Rattle.std.specs.Prelude.{option_map}
 use Rattle.std.specs.List.{range_with_len}
 use Rattle.std.proofs.lemmas.List.{length-map, map-append, replicate_more, take_more}
@@ -9,7 +9,7 @@ use Rattle.alteration_model.specs.Faults.{pairs_of}
 use Rattle.alteration_model.specs.declared.puts.Put.{Put}
 use Rattle.alteration_model.proofs.Judged.{no_longer}
 use Rattle.ballot_form.specs.Alterations.{IsAlteration, IsAlterationFrom}
-use Rattle.ballot_form.specs.Ballots.{IsPoll, IsValidBallot, Poll}
+use Rattle.ballot_form.specs.Ballots.{IsPoll, Poll}
 use Rattle.ballot_form.specs.Rules.{IsRule}
 use Rattle.ballot_form.specs.Scores.{first_count}
 use Rattle.ballot_form.specs.declared.limits.TheConstants.{MOST_BALLOTS, MOST_CANDIDATES, MOST_SEATS}
@@ -21,24 +21,20 @@ use Rattle.bound_tree.specs.Growth.{cuts_of}
 use Rattle.bound_tree.specs.Lines.{CutWith, SplitInto, lines_of}
 use Rattle.bound_tree.specs.Nodes.{height, size}
 use Rattle.bound_tree.specs.Plain.{Plain, Split, Cut}
-use Rattle.bound_tree.specs.declared.bound.TheConstants.{MOST_DEPTH, MOST_NODES}
+use Rattle.bound_tree.specs.declared.bound.TheConstants.{MOST_DEPTH}
 use Rattle.bound_tree.specs.declared.tree.Tree.TheVariants as program
 use Rattle.bound_tree.proofs.Laws.{highest_cuts, size_cuts, split_of_cuts}
 use Rattle.bound_tree.proofs.LineLaws.{lines_split}
-use Rattle.cert_text.specs.CertText.{BodyFits, ClaimFits, GoalFits, IsPrintable, LineFits, OutcomeFits, PutFits, TurnFits}
+use Rattle.cert_text.specs.CertText.{BodyFits, ClaimFits, IsPrintable, LineFits, OutcomeFits, PutFits, TurnFits}
 use Rattle.cert_text.specs.declared.cert.Cert.{Cert}
-use Rattle.cert_text.specs.declared.cert.GoalText.{GoalText}
 use Rattle.cert_text.specs.declared.cert.GoalText.TheVariants.{Pair}
-use Rattle.cert_text.specs.declared.limits.TheConstants.{GREATEST_CANDIDATE, GREATEST_MULTIPLIER}
-use Rattle.dhondt_seats.specs.Seats.{reported_seats, seats_of, votes_of}
-use Rattle.goal_rows.specs.Elections.{Election}
-use Rattle.goal_rows.specs.Goals.{IsRootOf}
+use Rattle.cert_text.specs.declared.limits.TheConstants.{GREATEST_MULTIPLIER}
+use Rattle.dhondt_seats.specs.Seats.{seats_of, votes_of}
 use Rattle.goal_rows.specs.Outcomes.{IsReported}
 use Rattle.goal_rows.specs.declared.goals.Goal.{Goal}
-use Rattle.goal_rows.specs.declared.goals.Goal.TheVariants as goals
 use Rattle.goal_rows.proofs.PairPoints.{few_seats}
 use Rattle.margin_check.specs.Verdicts.{IsJudged}
-use Rattle.margin_solve.specs.Certificates.{IsFixedCert, IsMarginCert, split_for, tree_for}
+use Rattle.margin_solve.specs.Certificates.{split_for, tree_for}
 
 -- ---- built one by one
 

@@ -1,7 +1,6 @@
 -- From what a run leaves to what it promises.
 use Rattle.std.proofs.Common.{ℕ, List, inl, inr}
 use Rattle.ballot_csv.specs.PlainForm.{plain_form}
-use Rattle.ballot_form.specs.declared.rule.Rule.TheVariants.{Plurality}
 use Rattle.mov_run.specs.Jobs.{Answers, IsCertified, IsShown, IsTallied}
 use Rattle.mov_run.specs.Promised.{Promised, WritesMargin, WritesPlain, WritesTally}
 use Rattle.mov_run.specs.Run.{Outside, Ran, source_of}

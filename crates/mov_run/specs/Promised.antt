@@ -24,7 +24,6 @@ use Rattle.mov_run.specs.RunFaults.{line_of}
 use Rattle.mov_run.specs.Verdicts.{refused_text, valid_text}
 use Rattle.mov_run.specs.declared.runs.Status.{Status}
 use Rattle.mov_run.specs.Causes.{Causes}
-use Rattle.ballot_form.specs.declared.rule.Rule.TheVariants.{Plurality}
 use Rattle.mov_run.specs.declared.jobs.Job.TheVariants.{Tally, Margin, Check, Show}
 use Rattle.mov_run.specs.declared.runs.Status.TheVariants.{Ballots, Certificate, Read}
 use Rattle.mov_run.specs.declared.run_faults.RunFault.TheVariants as run_fault

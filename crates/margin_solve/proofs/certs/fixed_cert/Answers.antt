@@ -1,9 +1,7 @@
 use Rattle.std.proofs.Common.{refl}
 use Rattle.std.specs.Prelude.{None}
-use Rattle.cert_text.specs.CertText.{IsPrintable}
 use Rattle.cert_text.specs.declared.cert.Cert.{Cert}
 use Rattle.cert_text.specs.declared.cert.Claim.TheVariants.{Fixed}
-use Rattle.margin_solve.specs.Certificates.{IsCertOf}
 use Rattle.margin_solve.proofs.Made.{HasHead, fixed_made}
 use Rattle.margin_solve.proofs.certs.fixed_cert.Goals as goal
 

@@ -1,4 +1,4 @@
-use Rattle.std.proofs.Common.{◌≡◌, ◌∙◌, ap, refl, Some}
+use Rattle.std.proofs.Common.{◌∙◌, ap, refl, Some}
 use Rattle.cert_text.specs.declared.cert.Cert.{Cert}
 use Rattle.cert_text.specs.declared.cert.Claim.TheVariants.{Margin}
 use Rattle.cert_text.specs.declared.cert.GoalText.TheVariants.{Pair}
