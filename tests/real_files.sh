@@ -179,6 +179,45 @@ split 0
 END
 }
 
+# valid NAME CERTIFICATE VERDICT BALLOTS RULE WORD..: `margin` prints the certificate, and `check` says these words of it.
+valid() {
+    local name=$1 cert=$2 verdict=$3 ballots=$4 rule=$5
+    shift 5
+    prints "$name" margin "$rule" "$ballots" "$@" <"$cert"
+    printf 'VALID\n%b\n' "$verdict" >valid.text
+    prints "$name, checked" check "$ballots" "$cert" <valid.text
+}
+
+# checked NAME BALLOTS RULE WORD..: `check` says that what `margin` printed is valid, with its claim.
+checked() {
+    local name=$1 ballots=$2
+    shift 2
+    "${limit[@]}" "$mov" margin "$1" "$ballots" "${@:2}" >made.cert 2>/dev/null
+    { echo VALID; sed -n '2p;5p' made.cert; } >made.text
+    prints "$name: what margin prints is valid" check "$ballots" made.cert <made.text
+}
+
+margins_of_pairs() {
+    printf 'ballots,A,B,C\n3,A,B,C\n2,B,C,A\n' >borda.csv
+    printf '%s\n' "movcert 1" "rule borda" "size 3 5" "reported 1" "margin 1" "goal pair 0 1" "put 4 0" "split 2" "cut 1" \
+        "cut 1" >borda.cert
+    valid "borda of five" borda.cert 'rule borda\nmargin 1' borda.csv borda
+    printf 'ballots,A,B\n6,A\n3,B\n' >nine.csv
+    printf '%s\n' "movcert 1" "rule dhondt 3" "size 2 9" "reported 2 1" "margin 1" "goal pair 0 1" "put 7 0" "split 2" "cut 1" \
+        "cut 1" >nine.cert
+    valid "seats of nine" nine.cert 'rule dhondt 3\nmargin 1' nine.csv dhondt --seats 3
+    printf '%s\n' "movcert 1" "rule dhondt 3" "size 2 0" "reported 3 0" "margin 0" "goal pair 1 0" "cut" >none.cert
+    valid "no ballots, seats" none.cert 'rule dhondt 3\nmargin 0' none.csv dhondt --seats 3
+    printf 'ballots,North,South,East,West\n340000,North\n280000,South\n160000,East\n60000,West\n' >whole.csv
+    {
+        printf '%s\n' "movcert 1" "rule dhondt 7" "size 4 840000" "reported 3 3 1 0" "margin 14286" "goal pair 0 1"
+        seq -f 'put %.0f 0' 340001 354286
+        echo "split 9"
+        repeat 9 "cut 1"
+    } >whole.cert
+    valid "seats of a whole election" whole.cert 'rule dhondt 7\nmargin 14286' whole.csv dhondt --seats 7
+}
+
 tallies_by_scores() {
     prints "tally plurality" tally plurality five-two.csv <<'END'
 rule plurality
@@ -312,15 +351,20 @@ word_faults() {
     word_fault "wrong arguments" check five-two.csv
     word_fault "wrong arguments" tally dhondt five-two.csv --seats
     word_fault "wrong arguments" tally dhondt five-two.csv --seat 3
-    word_fault "wrong arguments" margin plurality five-two.csv --seats 3
+    word_fault "wrong arguments" margin dhondt five-two.csv --seats
     word_fault "wrong arguments" show $'\xff.csv'
     word_fault "unknown rule" margin stv five-two.csv
     word_fault "unknown rule" tally stv five-two.csv --seats 0
+    word_fault "unknown rule" margin irv five-two.csv
+    word_fault "unknown rule" margin condorcet five-two.csv --seats x
     word_fault "bad seats" tally dhondt five-two.csv --seats 0
     word_fault "bad seats" tally irv five-two.csv --seats 501
     word_fault "bad seats" tally dhondt five-two.csv --seats 03
+    word_fault "bad seats" margin dhondt five-two.csv --seats 501
     word_fault "seats missing" tally dhondt five-two.csv
+    word_fault "seats missing" margin dhondt five-two.csv
     word_fault "seats unwanted" tally irv five-two.csv --seats 3
+    word_fault "seats unwanted" margin plurality five-two.csv --seats 3
 }
 
 # ballot_fault RECORD TEXT FILE: what is said of a ballot file of these bytes, written as printf wants them.
@@ -593,6 +637,7 @@ five_hundred_seats() {
         print "reported " seats[1] + 0 " " seats[2] + 0 " " seats[3] + 0 " " seats[4] + 0
     }' >hundreds.text
     prints "five hundred seats" tally dhondt hundreds.csv --seats 500 <hundreds.text
+    checked "five hundred seats" hundreds.csv dhondt --seats 500
 }
 
 # Five thousand different ballots that rank all of twelve candidates; those with A first stand three times each.
@@ -636,6 +681,7 @@ many_kinds() {
 # --- all cases
 
 margins
+margins_of_pairs
 tallies_by_scores
 other_tallies
 forms_of_ballot_files
