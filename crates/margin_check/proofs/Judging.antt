@@ -29,7 +29,7 @@ use Rattle.cert_text.specs.declared.cert.Cert.{Cert}
 use Rattle.cert_text.specs.declared.cert.Claim.{Claim}
 use Rattle.cert_text.specs.declared.cert.Claim.TheVariants.{Margin, Fixed, Bounds}
 use Rattle.cert_text.specs.declared.cert.GoalText.{GoalText}
-use Rattle.margin_check.specs.Validity.{ClaimHolds, IsTurned, cert_visits, election_by}
+use Rattle.margin_check.specs.Validity.{ClaimHolds, HasSizes, IsTurned, cert_visits, election_by, level_of}
 use Rattle.margin_check.specs.Verdicts.{IsFirstWithout, IsJudged, IsRefusal, Judges, place_of}
 use Rattle.margin_check.specs.Visits.{Visit, visits}
 use Rattle.margin_check.specs.Walks.{EndsAt, Gives, IsWithin}
@@ -37,6 +37,7 @@ use Rattle.margin_check.specs.declared.verdict.Reason.{Reason}
 use Rattle.margin_check.specs.declared.verdict.Verdict.{Verdict}
 use Rattle.margin_check.specs.declared.verdict.Verdict.TheVariants.{No}
 use Rattle.margin_check.specs.declared.walk.Asked.{Asked}
+use Rattle.margin_check.specs.declared.walk.Asked.TheVariants.{Cuts}
 use Rattle.margin_check.specs.declared.walk.End.{End}
 use Rattle.margin_check.specs.declared.walk.End.TheVariants.{Through, Stopped}
 use Rattle.margin_check.proofs.Nodes.{visits_few}
@@ -158,6 +159,8 @@ first_stopped P number at xs end is ends = subst (λ x. EndsAt P number xs x) is
 
 -- what is known once the claim is judged
 pub record Known (p : Poll) (cert : Cert) (race : Race) (holds : Bool) : Type 0 where
+  pub judged : IsJudged cert.rule
+  pub sizes : HasSizes p cert
   pub same : election_of race ≡ election_by p cert
   pub reported : IsReported cert.rule p cert.reported
   pub alteration : IsAlteration p (pairs_of cert.puts)
@@ -165,11 +168,13 @@ pub record Known (p : Poll) (cert : Cert) (race : Race) (holds : Bool) : Type 0 
 
 module _ (p : Poll) (cert : Cert) (race : Race) (is : IsRace race) (rule : race.rule ≡ cert.rule) (poll : race.roll.now ≡ p)
     (outcome : race.reported ≡ cert.reported) (roots : race.roots ≡ root_goals cert.rule p.c race.reported) where
-  pub known : (altered : Poll) (shown : List Put) (changes : List (ℕ × List ℕ)) (holds : Bool) → altered ≡ after p changes → changes ≡ pairs_of shown
+  pub known : IsJudged cert.rule → HasSizes p cert → (altered : Poll) (shown : List Put) (changes : List (ℕ × List ℕ)) (holds : Bool) → altered ≡ after p changes → changes ≡ pairs_of shown
       → shown ≡ cert.puts → IsAlteration p changes → (IsTrue holds ↔ ClaimHolds (election_of race) cert.claim cert.goal altered.ballots) → Known p cert race holds
-  known altered shown changes holds made pairs lent ok test =
+  known judged sizes altered shown changes holds made pairs lent ok test =
       let same = same_election race p cert rule poll outcome roots in
       record {
+        judged = judged;
+        sizes = sizes;
         same = same;
         reported = reported_so p cert race same is;
         alteration = altered_so p cert shown changes pairs lent ok;
@@ -185,3 +190,11 @@ module _ (p : Poll) (cert : Cert) (race : Race) (same : election_of race ≡ ele
   pub came_to : (number : ℕ) → end ≡ Stopped number
       → (place : ℕ) × IsFirstWithout (Gives (election_by p cert) asked) (cert_visits p cert) place × (number ≡ 0 + place)
   came_to number is = first_stopped (Gives (election_by p cert) asked) 0 number (cert_visits p cert) end is (ends_so p cert race same asked end ends)
+
+-- the cuts hold at the claim's number
+pub cuts_hold : (p : Poll) (cert : Cert) (race : Race) → election_of race ≡ election_by p cert → (t : ℕ) (end : End)
+    → EndsAt (Gives (election_of race) (Cuts t)) 0 (visits (election_of race) (without_limits Root) cert.tree) end
+    → t ≡ level_of (length p.ballots) cert.claim → (next : ℕ) → end ≡ Through next
+    → All (Gives (election_by p cert) (Cuts (level_of (length p.ballots) cert.claim))) (cert_visits p cert)
+cuts_hold p cert race same t end ends level next is =
+    subst (λ n. All (Gives (election_by p cert) (Cuts n)) (cert_visits p cert)) level (came_through p cert race same (Cuts t) end ends next is)

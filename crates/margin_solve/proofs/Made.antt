@@ -7,8 +7,10 @@ use Rattle.alteration_model.specs.Faults.{pairs_of}
 use Rattle.alteration_model.specs.declared.puts.Put.{Put}
 use Rattle.ballot_form.specs.Alterations.{IsAlteration, after}
 use Rattle.ballot_form.specs.Ballots.{Poll}
+use Rattle.ballot_form.specs.declared.outcome.Outcome.{Outcome}
 use Rattle.cert_text.specs.CertText.{BodyFits, ClaimFits, IsPrintable}
 use Rattle.cert_text.specs.declared.cert.Cert.{Cert}
+use Rattle.cert_text.specs.declared.cert.Claim.{Claim}
 use Rattle.cert_text.specs.declared.cert.Claim.TheVariants.{Margin, Fixed}
 use Rattle.cert_text.specs.declared.cert.GoalText.{GoalText}
 use Rattle.cert_text.specs.declared.cert.GoalText.TheVariants.{Pair}
@@ -40,7 +42,7 @@ named_by : (text : Option GoalText) (g l : ℕ) → text ≡ Some (Pair g l) →
 named_by text g l is = rw is refl
 
 -- a certificate has the head of a race
-pub record HasHead (race : Race) (cert : Cert) : Type 0 where
+record HasHead (race : Race) (cert : Cert) : Type 0 where
   pub rule : cert.rule ≡ race.rule
   pub candidates : cert.c ≡ race.roll.now.c
   pub ballots : cert.ballots ≡ length race.roll.now.ballots
@@ -101,7 +103,7 @@ module _ (race : Race) (cert : Cert) (is : IsRace race) (own : race.roots ≡ ro
     numbers = order;
   }
 
-  pub fixed_made : p.c ≡ 1 → cert.claim ≡ Fixed → cert.goal ≡ Nothing → cert.puts ≡ [] → cert.tree ≡ split_for []
+  fixed_made : p.c ≡ 1 → cert.claim ≡ Fixed → cert.goal ≡ Nothing → cert.puts ≡ [] → cert.tree ≡ split_for []
       → IsCertOf race.rule 145 p cert × IsPrintable cert
   fixed_made alone claim goal puts tree =
       let none : e.roots ≡ [] = alone_without_goals cert.rule p cert.reported judged_cert election.reported alone in
@@ -118,7 +120,7 @@ module _ (race : Race) (cert : Cert) (is : IsRace race) (own : race.roots ≡ ro
         text,
       )
 
-  pub margin_made : (g l : ℕ) (goal : Goal) (changes : List (ℕ × List ℕ)) → 2 ≤ p.c → IsStartWitness (election_of race) goal changes
+  margin_made : (g l : ℕ) (goal : Goal) (changes : List (ℕ × List ℕ)) → 2 ≤ p.c → IsStartWitness (election_of race) goal changes
       → IsMetBy (election_of race) goal changes → goal ≡ goals.Pair g l → cert.claim ≡ Margin (length changes) → cert.goal ≡ Some (Pair g l)
       → pairs_of cert.puts ≡ changes → cert.tree ≡ tree_for race.roots (length changes)
       → IsCertOf race.rule 145 p cert × IsPrintable cert
@@ -162,3 +164,25 @@ module _ (race : Race) (cert : Cert) (is : IsRace race) (own : race.roots ≡ ro
         })),
         text,
       )
+
+-- ---- the same of the very certificates that are made
+
+module _ (race : Race) (is : IsRace race) (own : race.roots ≡ root_goals race.rule race.roll.now.c race.reported) (judged : IsJudged race.rule)
+    (c ballots : ℕ) (reported : Outcome) (puts : List Put) (tree : Plain) (candidates : c ≡ race.roll.now.c)
+    (many : ballots ≡ length race.roll.now.ballots) (same_outcome : reported ≡ race.reported) where
+  abbrev of_claim : Claim → Option GoalText → Cert
+  of_claim claim goal = record { rule = race.rule; c = c; ballots = ballots; reported = reported; claim = claim; goal = goal; puts = puts; tree = tree }
+
+  head_of : (claim : Claim) (goal : Option GoalText) → HasHead race (of_claim claim goal)
+  head_of claim goal = record { rule = refl; candidates = candidates; ballots = many; reported = same_outcome }
+
+  pub fixed_found : race.roll.now.c ≡ 1 → puts ≡ [] → tree ≡ split_for []
+      → IsCertOf race.rule 145 race.roll.now (of_claim Fixed Nothing) × IsPrintable (of_claim Fixed Nothing)
+  fixed_found alone none grown = fixed_made race (of_claim Fixed Nothing) is own judged (head_of Fixed Nothing) alone refl refl none grown
+
+  pub margin_found : (g l k : ℕ) (goal : Goal) (changes : List (ℕ × List ℕ)) → 2 ≤ race.roll.now.c → IsStartWitness (election_of race) goal changes
+      → IsMetBy (election_of race) goal changes → goal ≡ goals.Pair g l → k ≡ length changes → pairs_of puts ≡ changes → tree ≡ tree_for race.roots k
+      → IsCertOf race.rule 145 race.roll.now (of_claim (Margin k) (Some (Pair g l))) × IsPrintable (of_claim (Margin k) (Some (Pair g l)))
+  margin_found g l k goal changes others start met pair count made grown =
+      margin_made race (of_claim (Margin k) (Some (Pair g l))) is own judged (head_of (Margin k) (Some (Pair g l))) g l goal changes others start met pair
+      (ap Margin count) refl made (grown ∙ ap (tree_for race.roots) count)

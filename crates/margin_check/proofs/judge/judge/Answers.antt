@@ -1,12 +1,12 @@
-use Rattle.std.proofs.Common.{All, ◌≡◌, ◌+◌, ◌∙◌, ap, arith, length, refl, subst, sym}
+use Rattle.std.proofs.Common.{◌≡◌, ◌+◌, ◌∙◌, ap, arith, length, refl, subst, sym}
 use Rattle.ballot_form.specs.Ballots.{Poll}
 use Rattle.goal_rows.specs.Outcomes.{IsReported}
-use Rattle.margin_check.specs.Validity.{HasSizes, cert_visits, election_by, level_of}
-use Rattle.margin_check.specs.Verdicts.{IsFirstWithout, IsJudged}
+use Rattle.margin_check.specs.Validity.{cert_visits, election_by, level_of}
+use Rattle.margin_check.specs.Verdicts.{IsFirstWithout}
 use Rattle.margin_check.specs.Walks.{Gives}
 use Rattle.margin_check.specs.declared.verdict.Reason.TheVariants as reasons
 use Rattle.margin_check.specs.declared.walk.Asked.TheVariants.{Shape, Cuts}
-use Rattle.margin_check.proofs.Judging.{as_many_after, came_through, came_to, fails_by, few_places, judged_pairs, known, other_outcome, refuse}
+use Rattle.margin_check.proofs.Judging.{as_many_after, came_through, came_to, cuts_hold, fails_by, few_places, judged_pairs, known, other_outcome, refuse}
 use Rattle.margin_check.proofs.judge.judge.Goals as goal
 
 pub returns-then-not-equals : goal.returns-then-not-equals
@@ -35,12 +35,11 @@ returns-then-not-claim_holds c =
     let p = c.args.roll.now in
     let cert = c.args.cert.now in
     let race = c.in_ok-race.race in
-    let judged : IsJudged cert.rule × HasSizes p cert = (c.is_judged.ensures.0 c.if-not-is_judged.false, c.has_sizes.ensures.0 c.if-not-has_sizes.false) in
     let so = known p cert race c.in_ok-race.ensures.race c.in_ok-race.ensures.rule c.in_ok-race.ensures.roll (c.equals.ensures.0 c.if-not-equals.false) c.in_ok-race.ensures.roots
-    c.in_ok-altered.altered c.as_slice.result.now c.in-Ok.changes c.claim_holds.result c.in_ok-altered.ensures c.in-Ok.ensures.gives.1 c.as_slice.ensures c.in-Ok.ensures.alteration
-    c.claim_holds.ensures in
+    (c.is_judged.ensures.0 c.if-not-is_judged.false) (c.has_sizes.ensures.0 c.if-not-has_sizes.false) c.in_ok-altered.altered c.as_slice.result.now c.in-Ok.changes
+    c.claim_holds.result c.in_ok-altered.ensures c.in-Ok.ensures.gives.1 c.as_slice.ensures c.in-Ok.ensures.alteration c.claim_holds.ensures in
     refuse p cert reasons.ClaimFails 6 c.refused-then-not-claim_holds.result c.refused-then-not-claim_holds.ensures (record {
-      before = (judged.0, (judged.1, (so.reported, (so.alteration, tt))));
+      before = (so.judged, (so.sizes, (so.reported, (so.alteration, tt))));
       fails = (fails_by c.claim_holds.result so.claim c.if-not-claim_holds.true, refl);
     })
 
@@ -49,14 +48,12 @@ returns-in-Stopped c =
     let p = c.args.roll.now in
     let cert = c.args.cert.now in
     let race = c.in_ok-race.race in
-    let judged : IsJudged cert.rule × HasSizes p cert = (c.is_judged.ensures.0 c.if-not-is_judged.false, c.has_sizes.ensures.0 c.if-not-has_sizes.false) in
     let so = known p cert race c.in_ok-race.ensures.race c.in_ok-race.ensures.rule c.in_ok-race.ensures.roll (c.equals.ensures.0 c.if-not-equals.false) c.in_ok-race.ensures.roots
-    c.in_ok-altered.altered c.as_slice.result.now c.in-Ok.changes c.claim_holds.result c.in_ok-altered.ensures c.in-Ok.ensures.gives.1 c.as_slice.ensures c.in-Ok.ensures.alteration
-    c.claim_holds.ensures in
-    let turned = so.claim.0 c.if-not-claim_holds.false in
+    (c.is_judged.ensures.0 c.if-not-is_judged.false) (c.has_sizes.ensures.0 c.if-not-has_sizes.false) c.in_ok-altered.altered c.as_slice.result.now c.in-Ok.changes
+    c.claim_holds.result c.in_ok-altered.ensures c.in-Ok.ensures.gives.1 c.as_slice.ensures c.in-Ok.ensures.alteration c.claim_holds.ensures in
     let first = came_to p cert race so.same Shape c.in_ok-number.field-0 c.in_ok-number.ensures.end c.in-Stopped.number c.in-Stopped.is in
     refuse p cert reasons.ShapeDiffers (c.first_line.result + c.in-Stopped.number) c.refused-in-Stopped.result c.refused-in-Stopped.ensures (record {
-      before = (judged.0, (judged.1, (so.reported, (so.alteration, (turned, tt)))));
+      before = (so.judged, (so.sizes, (so.reported, (so.alteration, (so.claim.0 c.if-not-claim_holds.false, tt)))));
       fails = (first.0, first.1, omega (arith, first.2, c.first_line.ensures.value));
     })
 
@@ -65,16 +62,14 @@ returns-in-Stopped-2 c =
     let p = c.args.roll.now in
     let cert = c.args.cert.now in
     let race = c.in_ok-race.race in
-    let judged : IsJudged cert.rule × HasSizes p cert = (c.is_judged.ensures.0 c.if-not-is_judged.false, c.has_sizes.ensures.0 c.if-not-has_sizes.false) in
     let so = known p cert race c.in_ok-race.ensures.race c.in_ok-race.ensures.rule c.in_ok-race.ensures.roll (c.equals.ensures.0 c.if-not-equals.false) c.in_ok-race.ensures.roots
-    c.in_ok-altered.altered c.as_slice.result.now c.in-Ok.changes c.claim_holds.result c.in_ok-altered.ensures c.in-Ok.ensures.gives.1 c.as_slice.ensures c.in-Ok.ensures.alteration
-    c.claim_holds.ensures in
-    let turned = so.claim.0 c.if-not-claim_holds.false in
+    (c.is_judged.ensures.0 c.if-not-is_judged.false) (c.has_sizes.ensures.0 c.if-not-has_sizes.false) c.in_ok-altered.altered c.as_slice.result.now c.in-Ok.changes
+    c.claim_holds.result c.in_ok-altered.ensures c.in-Ok.ensures.gives.1 c.as_slice.ensures c.in-Ok.ensures.alteration c.claim_holds.ensures in
     let shape = came_through p cert race so.same Shape c.in_ok-number.field-0 c.in_ok-number.ensures.end c.in_default.field-0 c.in_default.is in
     let t : c.level.result ≡ level_of (length p.ballots) cert.claim = c.level.ensures ∙ ap (λ n. level_of n cert.claim) c.len-2.ensures.value in
     let first = came_to p cert race so.same (Cuts c.level.result) c.in_ok-number-2.field-0 c.in_ok-number-2.ensures.end c.in-Stopped-2.number c.in-Stopped-2.is in
     refuse p cert reasons.CutFails (c.first_line-in-Stopped-2.result + c.in-Stopped-2.number) c.refused-in-Stopped-2.result c.refused-in-Stopped-2.ensures (record {
-      before = (judged.0, (judged.1, (so.reported, (so.alteration, (turned, (shape, tt))))));
+      before = (so.judged, (so.sizes, (so.reported, (so.alteration, (so.claim.0 c.if-not-claim_holds.false, (shape, tt))))));
       fails = (
         first.0,
         subst (λ n. IsFirstWithout (Gives (election_by p cert) (Cuts n)) (cert_visits p cert) first.0) t first.1,
@@ -87,17 +82,14 @@ returns-then-not-has_order c =
     let p = c.args.roll.now in
     let cert = c.args.cert.now in
     let race = c.in_ok-race.race in
-    let judged : IsJudged cert.rule × HasSizes p cert = (c.is_judged.ensures.0 c.if-not-is_judged.false, c.has_sizes.ensures.0 c.if-not-has_sizes.false) in
     let so = known p cert race c.in_ok-race.ensures.race c.in_ok-race.ensures.rule c.in_ok-race.ensures.roll (c.equals.ensures.0 c.if-not-equals.false) c.in_ok-race.ensures.roots
-    c.in_ok-altered.altered c.as_slice.result.now c.in-Ok.changes c.claim_holds.result c.in_ok-altered.ensures c.in-Ok.ensures.gives.1 c.as_slice.ensures c.in-Ok.ensures.alteration
-    c.claim_holds.ensures in
-    let turned = so.claim.0 c.if-not-claim_holds.false in
+    (c.is_judged.ensures.0 c.if-not-is_judged.false) (c.has_sizes.ensures.0 c.if-not-has_sizes.false) c.in_ok-altered.altered c.as_slice.result.now c.in-Ok.changes
+    c.claim_holds.result c.in_ok-altered.ensures c.in-Ok.ensures.gives.1 c.as_slice.ensures c.in-Ok.ensures.alteration c.claim_holds.ensures in
     let shape = came_through p cert race so.same Shape c.in_ok-number.field-0 c.in_ok-number.ensures.end c.in_default.field-0 c.in_default.is in
-    let t : c.level.result ≡ level_of (length p.ballots) cert.claim = c.level.ensures ∙ ap (λ n. level_of n cert.claim) c.len-2.ensures.value in
-    let cuts = subst (λ n. All (Gives (election_by p cert) (Cuts n)) (cert_visits p cert)) t
-    (came_through p cert race so.same (Cuts c.level.result) c.in_ok-number-2.field-0 c.in_ok-number-2.ensures.end c.in_default-2.field-0 c.in_default-2.is) in
+    let cuts = cuts_hold p cert race so.same c.level.result c.in_ok-number-2.field-0 c.in_ok-number-2.ensures.end
+    (c.level.ensures ∙ ap (λ n. level_of n cert.claim) c.len-2.ensures.value) c.in_default-2.field-0 c.in_default-2.is in
     refuse p cert reasons.NumbersDisagree 5 c.refused-then-not-has_order.result c.refused-then-not-has_order.ensures (record {
-      before = (judged.0, (judged.1, (so.reported, (so.alteration, (turned, (shape, (cuts, tt)))))));
+      before = (so.judged, (so.sizes, (so.reported, (so.alteration, (so.claim.0 c.if-not-claim_holds.false, (shape, (cuts, tt)))))));
       fails = (fails_by c.has_order.result c.has_order.ensures c.if-not-has_order.true, refl);
     })
 
@@ -106,22 +98,19 @@ returns c =
     let p = c.args.roll.now in
     let cert = c.args.cert.now in
     let race = c.in_ok-race.race in
-    let judged : IsJudged cert.rule × HasSizes p cert = (c.is_judged.ensures.0 c.if-not-is_judged.false, c.has_sizes.ensures.0 c.if-not-has_sizes.false) in
     let so = known p cert race c.in_ok-race.ensures.race c.in_ok-race.ensures.rule c.in_ok-race.ensures.roll (c.equals.ensures.0 c.if-not-equals.false) c.in_ok-race.ensures.roots
-    c.in_ok-altered.altered c.as_slice.result.now c.in-Ok.changes c.claim_holds.result c.in_ok-altered.ensures c.in-Ok.ensures.gives.1 c.as_slice.ensures c.in-Ok.ensures.alteration
-    c.claim_holds.ensures in
-    let turned = so.claim.0 c.if-not-claim_holds.false in
+    (c.is_judged.ensures.0 c.if-not-is_judged.false) (c.has_sizes.ensures.0 c.if-not-has_sizes.false) c.in_ok-altered.altered c.as_slice.result.now c.in-Ok.changes
+    c.claim_holds.result c.in_ok-altered.ensures c.in-Ok.ensures.gives.1 c.as_slice.ensures c.in-Ok.ensures.alteration c.claim_holds.ensures in
     let shape = came_through p cert race so.same Shape c.in_ok-number.field-0 c.in_ok-number.ensures.end c.in_default.field-0 c.in_default.is in
-    let t : c.level.result ≡ level_of (length p.ballots) cert.claim = c.level.ensures ∙ ap (λ n. level_of n cert.claim) c.len-2.ensures.value in
-    let cuts = subst (λ n. All (Gives (election_by p cert) (Cuts n)) (cert_visits p cert)) t
-    (came_through p cert race so.same (Cuts c.level.result) c.in_ok-number-2.field-0 c.in_ok-number-2.ensures.end c.in_default-2.field-0 c.in_default-2.is) in (
-      judged.0,
+    let cuts = cuts_hold p cert race so.same c.level.result c.in_ok-number-2.field-0 c.in_ok-number-2.ensures.end
+    (c.level.ensures ∙ ap (λ n. level_of n cert.claim) c.len-2.ensures.value) c.in_default-2.field-0 c.in_default-2.is in (
+      so.judged,
       record {
-        built = judged_pairs cert.rule cert.reported judged.0;
-        head = judged.1;
+        built = judged_pairs cert.rule cert.reported so.judged;
+        head = so.sizes;
         reported = so.reported;
         alteration = so.alteration;
-        claim = turned;
+        claim = so.claim.0 c.if-not-claim_holds.false;
         shape = shape;
         cuts = cuts;
         numbers = c.has_order.ensures.0 c.if-not-has_order.false;
