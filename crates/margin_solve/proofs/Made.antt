@@ -8,6 +8,7 @@ use Rattle.alteration_model.specs.declared.puts.Put.{Put}
 use Rattle.ballot_form.specs.Alterations.{IsAlteration, after}
 use Rattle.ballot_form.specs.Ballots.{Poll}
 use Rattle.ballot_form.specs.declared.outcome.Outcome.{Outcome}
+use Rattle.bound_tree.specs.Plain.{Plain}
 use Rattle.cert_text.specs.CertText.{BodyFits, ClaimFits, IsPrintable}
 use Rattle.cert_text.specs.declared.cert.Cert.{Cert}
 use Rattle.cert_text.specs.declared.cert.Claim.{Claim}
