@@ -45,11 +45,26 @@ fn expect_over<R: Abort>(
 
 #[test]
 fn verdicts_on_certificates(rt: HostRuntime) -> Result<(), Fail> {
-    let table: [(&[u8], u8, &[u8]); 8] = [
+    let table: [(&[u8], u8, &[u8]); 11] = [
         (
             b"movcert 1\nrule plurality\nsize 2 7\nreported 0\nmargin 2\ngoal pair 1 0\nput 1 1\nput 2 1\nsplit 1\ncut 1\n",
             0,
             b"VALID\nrule plurality\nmargin 2\n",
+        ),
+        (
+            b"movcert 1\nrule plurality\nsize 2 8\nreported 0\nmargin 2\ngoal pair 1 0\nput 1 1\nput 2 1\nsplit 1\ncut 1\n",
+            2,
+            b"REFUSED 1 HeadDiffers line 3\n",
+        ),
+        (
+            b"movcert 1\nrule plurality\nsize 2 7\nreported 1\nmargin 2\ngoal pair 1 0\nput 1 1\nput 2 1\nsplit 1\ncut 1\n",
+            2,
+            b"REFUSED 2 ReportedDiffers line 4\n",
+        ),
+        (
+            b"movcert 1\nrule plurality\nsize 2 7\nreported 0\nmargin 2\ngoal pair 1 0\nput 1 1\nput 8 1\nsplit 1\ncut 1\n",
+            2,
+            b"REFUSED 3 BadAlteration line 8\n",
         ),
         (
             b"movcert 1\nrule plurality\nsize 2 7\nreported 0\nbounds 1 2 budget 1\ngoal pair 1 0\nput 1 1\nput 2 1\nsplit 1\ncut 1\n",
