@@ -57,11 +57,11 @@ module _ (e : Election) (poll : IsPoll e.poll) (is : IsReported e.rule e.poll e.
       let by = turned text (pairs_of puts) k ok (many_puts c k (Margin k) text puts refl body) holds in
       (record { turned = (pairs_of puts, by.alteration, by.many, by.turned); least = none_below k tree proved }, by)
   says c Fixed text puts tree ok holds proved order body = unturnable tree proved
-  says c (Bounds low up stop) text puts tree ok holds proved order body = record {
-    none_below = none_below low tree proved;
-    turned = turned text (pairs_of puts) up ok (many_puts c up (Margin up) text puts refl body) holds;
-    less = order;
-  }
+  says c (Bounds low up stop) text puts tree ok holds proved order body = (
+    none_below low tree proved,
+    turned text (pairs_of puts) up ok (many_puts c up (Margin up) text puts refl body) holds,
+    order,
+  )
 
 pub claim_is_true : (p : Poll) (cert : Cert) → IsPoll p → IsPrintable cert → IsValidCert p cert → ClaimIsTrue p cert
 claim_is_true p cert poll printable valid =

@@ -15,17 +15,12 @@ pub record TurnsBy (rule : Rule) (p : Poll) (changes : List (ℕ × List ℕ)) (
   pub many : length changes ≡ k
   pub turned : Turns rule p changes
 
--- fewer than low replacements don't turn the outcome, these do, and there are more than low of them
-pub record IsBetween (rule : Rule) (p : Poll) (changes : List (ℕ × List ℕ)) (low up : ℕ) : Type 0 where
-  pub none_below : NoneBelow rule p low
-  pub turned : TurnsBy rule p changes up
-  pub less : low < up
-
--- what a claim says, with these replacements
+-- what a claim says, with these replacements: they are as few as turn the outcome; nothing turns it; or fewer than low
+-- don't turn it, these do, and there are more than low of them
 abbrev pub SaysOf : Rule → Poll → List (ℕ × List ℕ) → Claim → Type 0
 SaysOf rule p changes (Margin k) = IsMargin rule p k × TurnsBy rule p changes k
 SaysOf rule p changes Fixed = IsUnturnable rule p
-SaysOf rule p changes (Bounds low up stop) = IsBetween rule p changes low up
+SaysOf rule p changes (Bounds low up stop) = NoneBelow rule p low × TurnsBy rule p changes up × (low < up)
 
 -- the claim of a certificate is true
 abbrev pub ClaimIsTrue : Poll → Cert → Type 0
