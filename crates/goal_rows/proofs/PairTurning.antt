@@ -27,11 +27,11 @@ use Rattle.goal_rows.specs.Elections.{Election}
 use Rattle.goal_rows.specs.Goals.{Holds, IsComplete, IsDecidedByPairs, IsElection, gainer_points, loser_points, pair_weight, root_goals}
 use Rattle.goal_rows.specs.Margins.{Turns}
 use Rattle.goal_rows.specs.Outcomes.{Admits, IsReported}
-use Rattle.goal_rows.proofs.Reporting.{one_reported}
+use Rattle.goal_rows.proofs.OutcomesReported.{one_reported}
 use Rattle.goal_rows.proofs.Roots.{pair_among, pairs_are, seat_pair_among, seat_pairs_are, with_winner}
 use Rattle.goal_rows.proofs.SeatMoves.{another_where_gained, reported_allocation}
-use Rattle.goal_rows.proofs.Turning.{borda_turns_exactly, turns_exactly}
-use Rattle.goal_rows.proofs.Settled.{IsRival, other_of_rival, rival_of_other}
+use Rattle.goal_rows.proofs.ScoreTurning.{borda_turns_exactly, turns_exactly}
+use Rattle.goal_rows.proofs.PairSettlings.{IsRival, other_of_rival, rival_of_other}
 
 -- the one row of a pair
 one_row : (weight : List ℕ → ℤ) (ballots : List (List ℕ)) → pos 0 ≤ℤ sum_z weight ballots → All (λ weight. pos 0 ≤ℤ sum_z weight ballots) (weight ∷ [])

@@ -31,7 +31,7 @@ pub fn reported(alloc: Global, rule: Rule, roll: &Roll) -> Result<Outcome, Memor
 }
 
 /// Who has the greatest score under plurality.
-#[tactic(auto, using(crate::proofs::Reporting::plurality_winner, crate::proofs::Reporting::plurality_admitted))]
+#[tactic(auto, using(crate::proofs::OutcomesReported::plurality_winner, crate::proofs::OutcomesReported::plurality_admitted))]
 fn by_plurality(alloc: Global, roll: &Roll) -> Result<Outcome, Memory>
     ensures reported { IfOk result (λ outcome. IsReported Plurality roll.now outcome) }
     ensures admitted { IfOk result (λ outcome. Admits Plurality roll.now outcome) }
@@ -42,7 +42,7 @@ fn by_plurality(alloc: Global, roll: &Roll) -> Result<Outcome, Memory>
 }
 
 /// Who has the greatest score under Borda.
-#[tactic(auto, using(crate::proofs::Reporting::borda_winner, crate::proofs::Reporting::borda_admitted))]
+#[tactic(auto, using(crate::proofs::OutcomesReported::borda_winner, crate::proofs::OutcomesReported::borda_admitted))]
 fn by_borda(alloc: Global, roll: &Roll) -> Result<Outcome, Memory>
     ensures reported { IfOk result (λ outcome. IsReported Borda roll.now outcome) }
     ensures admitted { IfOk result (λ outcome. Admits Borda roll.now outcome) }
@@ -77,7 +77,7 @@ fn by_seats(alloc: Global, s: u16, roll: &Roll) -> Result<Outcome, Memory>
 }
 
 /// Who is the last of the reported order of elimination.
-#[tactic(auto, using(crate::proofs::Reporting::last_reported, crate::proofs::Reporting::last_admitted))]
+#[tactic(auto, using(crate::proofs::OutcomesReported::last_reported, crate::proofs::OutcomesReported::last_admitted))]
 fn by_elimination(alloc: Global, roll: &Roll) -> Result<Outcome, Memory>
     ensures reported { IfOk result (λ outcome. IsReported Irv roll.now outcome) }
     ensures admitted { IfOk result (λ outcome. Admits Irv roll.now outcome) }

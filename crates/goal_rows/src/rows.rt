@@ -14,7 +14,7 @@ pub const MOST_ROWS: usize = 780;
 
 /// Whether all rows of the complete goal hold on the ballots. The scratch has room for the rows of every goal. It takes
 /// no memory.
-#[tactic(auto, using(crate::proofs::Levels::level_holds))]
+#[tactic(auto, using(crate::proofs::PairLevels::level_holds))]
 pub fn rows_hold(race: &Race<'_>, after: &Roll, goal: &Goal, scratch: &mut [i64]) -> bool
     requires complete { IsComplete (election_of race.now) goal.now }
     requires same_sizes { after.now.c ≡ race.now.roll.now.c }

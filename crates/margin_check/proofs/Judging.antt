@@ -23,7 +23,7 @@ use Rattle.goal_rows.specs.Nodes.{without_limits}
 use Rattle.goal_rows.specs.Races.{IsRace, election_of}
 use Rattle.goal_rows.specs.declared.goals.Goal.TheVariants.{Root}
 use Rattle.goal_rows.specs.declared.parts.Race.{Race}
-use Rattle.goal_rows.proofs.Reporting.{one_reported}
+use Rattle.goal_rows.proofs.OutcomesReported.{one_reported}
 use Rattle.cert_text.specs.CertText.{BodyFits, ClaimFits, IsPrintable}
 use Rattle.cert_text.specs.declared.cert.Cert.{Cert}
 use Rattle.cert_text.specs.declared.cert.Claim.{Claim}

@@ -25,7 +25,8 @@ abbrev pub tree_for : List Goal → ℕ → Plain
 tree_for roots zero = Cut []
 tree_for roots (suc k) = split_for roots
 
--- nothing turns the outcome, since nobody else stands: there is no goal and no replacement, and the root is split into nothing
+-- nothing turns the outcome, since nobody else stands: there is no goal and no replacement, and the root is split into
+-- nothing
 pub record IsFixedCert (p : Poll) (cert : Cert) : Type 0 where
   pub claim : cert.claim ≡ Fixed
   pub alone : p.c ≡ 1
@@ -42,8 +43,8 @@ pub record IsMarginCert (p : Poll) (cert : Cert) : Type 0 where
   pub cheapest : IsStartWitness (election_by p cert) goal (pairs_of cert.puts)
   pub tree : cert.tree ≡ tree_for (election_by p cert).roots (length cert.puts)
 
--- the certificate of a contest under a rule that is decided by pairs, with a tree of at most so many nodes: it is valid, what it
--- claims is so, and its replacements are the cheapest of the root's pairs
+-- the certificate of a contest under a rule that is decided by pairs, with a tree of at most so many nodes: it is
+-- valid, what it claims is so, and its replacements are the cheapest of the root's pairs
 pub record IsCertOf (rule : Rule) (budget : ℕ) (p : Poll) (cert : Cert) : Type 0 where
   pub rule_is : cert.rule ≡ rule
   pub candidates : cert.c ≡ p.c

@@ -14,9 +14,9 @@ use mov_base::Memory;
 use std::alloc::Global;
 use witness_build::start_witness;
 
-/// The certificate of a contest under plurality, Borda or D'Hondt, the rules whose certificates are judged. It names the first pair
-/// that the fewest replacements bring level, and the ballots with the largest gains, lower numbers first. The budget is the most
-/// nodes of the tree; `LEAST_BUDGET` are enough for these rules.
+/// The certificate of a contest under plurality, Borda or D'Hondt, the rules whose certificates are judged. It names
+/// the first pair that the fewest replacements bring level, and the ballots with the largest gains, lower numbers
+/// first. The budget is the most nodes of the tree; `LEAST_BUDGET` are enough for these rules.
 pub fn margin(alloc: Global, contest: &Contest, rule: Rule, budget: u32) -> Result<Cert, Memory>
     requires lawful { IsRule rule }
     requires judged { IsJudged rule }

@@ -135,7 +135,8 @@ absent_file old new words s file (inr (inl stopped)) lacks = by stopped.0 stoppe
     by t is left (inr (inl long)) = absurd (long.1.there lacks)
     by t is left (inr (inr faulty)) = absurd (faulty.2.read.file.there lacks)
 
--- after an accepted file a run ends neither with its fault nor with a file unread, unless the certificate file is absent
+-- after an accepted file a run ends neither with its fault nor with a file unread, unless the certificate file is
+-- absent
 accepted_end : (old new : Outside) (words : List (List ℕ)) (s : Status) → (Rose old.files.faults new.files.faults → ⊥) → Ended old new words s → (s ≡ Ballots → ⊥) × (s ≡ Read → LacksCert old words)
 accepted_end old new words s quiet (inl done) = (λ e. absurd (cc), λ e. absurd (cc))
 accepted_end old new words s quiet (inr (inl refused)) = (λ e. absurd (cc), λ e. absurd (cc))

@@ -5,7 +5,7 @@ use Rattle.ballot_form.specs.Ballots.{Poll}
 use Rattle.ballot_form.specs.declared.rule.Rule.{Rule}
 use Rattle.ballot_form.specs.declared.rule.Rule.TheVariants.{Plurality, Borda, Condorcet, Dhondt, Irv}
 use Rattle.irv_count.proofs.Unique.{same_order}
-use Rattle.goal_rows.proofs.Reporting.{one_reported}
+use Rattle.goal_rows.proofs.OutcomesReported.{one_reported}
 use Rattle.mov_run.specs.Tally.{IsCountText, IsCounted, IsTally, head_text, reported_text, rounds_text}
 
 one_count : (rule : Rule) (p : Poll) (text other : List ℕ) → IsCountText rule p text → IsCountText rule p other → text ≡ other

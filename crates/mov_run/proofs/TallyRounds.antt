@@ -9,7 +9,7 @@ use Rattle.ballot_form.specs.declared.rule.Rule.TheVariants.{Irv}
 use Rattle.irv_count.specs.Orders.{IsOrderBy, held_count, left_after, stands}
 use Rattle.irv_count.specs.Rounds.{AreBitsOf}
 use Rattle.irv_count.proofs.Holders.{held_by_bits}
-use Rattle.goal_rows.proofs.Reporting.{last_reported}
+use Rattle.goal_rows.proofs.OutcomesReported.{last_reported}
 use Rattle.mov_run.specs.Tally.{AddsCount, IsCounted, for_each, held_field, reported_text, round_of, round_text, rounds_text}
 use Rattle.mov_run.proofs.Ranges.{adds_both, each_same, line_in_pieces, map_same}
 

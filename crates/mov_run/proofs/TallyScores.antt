@@ -6,7 +6,7 @@ use Rattle.ballot_form.specs.Scores.{borda_points, plurality_points, score_of}
 use Rattle.ballot_form.specs.declared.outcome.Outcome.TheVariants.{Winner}
 use Rattle.ballot_form.specs.declared.rule.Rule.TheVariants.{Borda, Plurality}
 use Rattle.score_count.specs.Winners.{AreScores, IsScoreWinner}
-use Rattle.goal_rows.proofs.Reporting.{borda_winner, plurality_winner}
+use Rattle.goal_rows.proofs.OutcomesReported.{borda_winner, plurality_winner}
 use Rattle.mov_run.specs.Tally.{AddsCount, IsCounted, reported_text, score_text, scores_text}
 use Rattle.mov_run.proofs.Ranges.{adds_both, each_same}
 

@@ -53,7 +53,8 @@ impl From<Memory> for WordFault {
     }
 }
 
-/// The job of the words, or the first thing that is wrong with them. Whether the first word is a command is judged without memory.
+/// The job of the words, or the first thing that is wrong with them. Whether the first word is a command is judged
+/// without memory.
 pub fn parse(alloc: Global, words: &[String]) -> Result<Job, WordFault>
     ensures reads { Reads (map string_bytes words.now) result }
     ensures lawful { IfOk result IsLawful }

@@ -16,8 +16,8 @@ use mov_base::Memory;
 use std::alloc::Global;
 use text_lines::written::{push_list, push_number, push_two};
 
-/// The text of the tally: the rule, the numbers of candidates and ballots, the names, what the rule counts, and the reported
-/// outcome. Each line is ended by a line feed, and its words are cut by single spaces.
+/// The text of the tally: the rule, the numbers of candidates and ballots, the names, what the rule counts, and the
+/// reported outcome. Each line is ended by a line feed, and its words are cut by single spaces.
 pub fn tally_text(alloc: Global, contest: &Contest, rule: Rule) -> Result<Vec<u8>, Memory>
     requires rule { IsRule rule }
     ensures { IfOk result (λ text. IsTally rule (named_poll_of contest.now) text.items) }

@@ -23,7 +23,8 @@ pub(crate) fn push_irv(alloc: Global, out: &mut Vec<u8>, roll: &Roll) -> Result<
     push_winner(out, order.as_slice()[c - 1])
 }
 
-/// Adds a line for each round, till one is left. `counts` has a place for each candidate, and what is written there means nothing.
+/// Adds a line for each round, till one is left. `counts` has a place for each candidate, and what is written there
+/// means nothing.
 fn push_rounds(
     out: &mut Vec<u8>,
     roll: &Roll,

@@ -10,7 +10,7 @@ use Rattle.goal_rows.specs.Races.{IsGroundIn}
 use Rattle.goal_rows.specs.declared.goals.Goal.{Goal}
 use Rattle.goal_rows.specs.declared.goals.Goal.TheVariants.{Root, Pair}
 use Rattle.goal_rows.specs.declared.parts.Ground.{Ground}
-use Rattle.goal_rows.proofs.Bounds.{length_reaches}
+use Rattle.goal_rows.proofs.PairGains.{length_reaches}
 use Rattle.goal_rows.proofs.PairPoints.{pair_points}
 use Rattle.goal_rows.proofs.PairTurning.{pair_row}
 use Rattle.goal_rows.proofs.Ways.{reached_pair}

@@ -2,10 +2,10 @@
 //!
 //! `pair_witness` answers the cheapest replacements of a pair: as few as bring its gainer level with its loser, each by
 //! the ballot that ranks the gainer alone, of the ballots with the largest gains, lower numbers first at equal gains.
-//! `start_witness` answers those of the first root pair that the fewest bring level; where a search begins, this is what
-//! is known to turn the outcome. No alteration of fewer replacements, whatever their new ballots, meets a root pair.
-//! Gains are counted by classes of ballots, and the ballots to replace are found in one pass. The crate stands on the
-//! goals of `goal_rows` and the alterations of `alteration_model`.
+//! `start_witness` answers those of the first root pair that the fewest bring level; where a search begins, this is
+//! what is known to turn the outcome. No alteration of fewer replacements, whatever their new ballots, meets a root
+//! pair. Gains are counted by classes of ballots, and the ballots to replace are found in one pass. The crate stands on
+//! the goals of `goal_rows` and the alterations of `alteration_model`.
 #![tactic(auto)]
 
 mod chosen;

@@ -1,4 +1,4 @@
-use Rattle.goal_rows.proofs.Reporting.{one_margin}
+use Rattle.goal_rows.proofs.OutcomesReported.{one_margin}
 use Rattle.goal_rows.proofs.laws.a_margin_is_one_number.Goals as goal
 
 pub returns : goal.returns

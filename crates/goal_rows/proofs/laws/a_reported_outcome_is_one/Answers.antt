@@ -1,4 +1,4 @@
-use Rattle.goal_rows.proofs.Reporting.{one_reported}
+use Rattle.goal_rows.proofs.OutcomesReported.{one_reported}
 use Rattle.goal_rows.proofs.laws.a_reported_outcome_is_one.Goals as goal
 
 pub returns : goal.returns

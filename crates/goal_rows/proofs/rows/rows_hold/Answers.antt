@@ -2,7 +2,7 @@ use Rattle.std.proofs.Common.{subst, sym}
 use Rattle.std.specs.Prelude.{◌↔◌, IsTrue}
 use Rattle.goal_rows.specs.Goals.{Holds}
 use Rattle.goal_rows.specs.Races.{election_of}
-use Rattle.goal_rows.proofs.Levels.{level_holds}
+use Rattle.goal_rows.proofs.PairLevels.{level_holds}
 use Rattle.goal_rows.proofs.rows.rows_hold.Goals as goal
 
 pub returns : goal.returns

@@ -5,7 +5,7 @@ use Rattle.std.specs.Prelude.{◌==◌, ◌&&◌, nat_le}
 use Rattle.std.proofs.lemmas.Bool.{cases_eq, cases_lt}
 use Rattle.std.proofs.lemmas.Bool.Decides.{nat_tests}
 use Rattle.condorcet_count.specs.Settlings.{Chooses, IsAdmittedOutcome, IsChosenInAll, IsOutcomeOf, IsSettling, ties_to_lower}
-use Rattle.goal_rows.proofs.Reporting.{one_chosen}
+use Rattle.goal_rows.proofs.OutcomesReported.{one_chosen}
 
 -- at least as many ballots prefer j to x as x to j
 pub record IsRival (c : ℕ) (pref : ℕ → ℕ → ℕ) (x j : ℕ) : Type 0 where

@@ -10,7 +10,7 @@ use Rattle.ballot_form.specs.declared.rule.Rule.TheVariants.{Borda, Plurality}
 use Rattle.goal_rows.specs.Outcomes.{Admits, HasGreatestScore, IsLowestWithGreatest, IsReported}
 use Rattle.goal_rows.specs.Margins.{Turns}
 use Rattle.goal_rows.specs.Pairs.{IsLevel}
-use Rattle.goal_rows.proofs.Reporting.{one_lowest}
+use Rattle.goal_rows.proofs.OutcomesReported.{one_lowest}
 
 -- of some numbers one is the greatest
 greatest_below : (f : ℕ → ℕ) (c : ℕ) → 0 < c → (x : ℕ) × (x < c) × ((y : ℕ) → y < c → f y ≤ f x)
