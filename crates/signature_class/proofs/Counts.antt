@@ -1,10 +1,10 @@
 -- One item more, and the classes after it.
-use Rattle.std.proofs.Common.{ℕ, zero, suc, List, [], ◌∷◌, ◌++◌, Some, Bool, true, false, ◌≡◌, ◌≢◌, ◌<◌, ◌≤◌, ◌+◌, ◌*◌, ◌∙◌, ◌⊎◌, take, map, length, slice_get, arith, ap, sym, refl, subst, inl, inr, All}
+use Rattle.std.proofs.Common.{ℕ, zero, suc, List, [], ◌∷◌, ◌++◌, Some, None, Bool, true, false, ◌≡◌, ◌≢◌, ◌<◌, ◌≤◌, ◌+◌, ◌*◌, ◌∙◌, ◌⊎◌, take, map, length, slice_get, arith, ap, sym, refl, subst, inl, inr, All}
 use Rattle.std.specs.Prelude.{Contains, AllPairs, nat_eq, unwrap_or}
 use Rattle.std.specs.Bool.{Decides}
 use Rattle.std.specs.Borrow.{Bor}
 use Rattle.std.specs.Str.{bytes_eq}
-use Rattle.std.specs.Map.{lookup}
+use Rattle.std.specs.Map.{lookup, set_value}
 use Rattle.std.proofs.lemmas.Bool.{cases_lt}
 use Rattle.std.proofs.lemmas.Bool.Decides.{Decides-eqb}
 use Rattle.std.proofs.lemmas.List.{length-take-le, take_more, append-nil, append_assoc, map-append, length-append, get_or_append_left, get_or_at}
@@ -247,6 +247,25 @@ inserted same x n m (c ∷ cs) is = elim (bool_of (same x c.0)) [
   | inr f ↦ let e : m ≡ count_of same x cs + n = rw f at is in rw f (ap (λ r. c ∷ r) (inserted same x n m cs e))
 ]
 
+-- a class that is found, with so many more
+pub raised : {X : Type 0} (same : X → X → Bool) (x : X) (n v : ℕ) (cs : List (X × ℕ)) → lookup (same x) cs ≡ Some v
+    → set_value (same x) cs (v + n) ≡ add_class same x n cs
+raised same x n v [] at = absurd (cc (at))
+raised same x n v (c ∷ cs) at = elim (bool_of (same x c.0)) [
+  | inl t ↦ let found : Some c.1 ≡ Some v = rw t at at in let e : c.1 ≡ v = cc in rw (t, e) refl
+  | inr f ↦ let rest : lookup (same x) cs ≡ Some v = rw f at at in rw f (ap (λ r. c ∷ r) (raised same x n v cs rest))
+]
+
+pub found_count : {X : Type 0} (same : X → X → Bool) (x : X) (v : ℕ) (cs : List (X × ℕ)) → lookup (same x) cs ≡ Some v → count_of same x cs ≡ v
+found_count same x v cs at = sym (looked_up same x cs) ∙ ap (λ o. unwrap_or o 0) at
+
+-- one that isn't stands last
+pub added : {X : Type 0} (same : X → X → Bool) (x : X) (n : ℕ) (cs : List (X × ℕ)) → lookup (same x) cs ≡ None
+    → insert_entry same cs x n ≡ add_class same x n cs
+added same x n cs none =
+    let nothing : count_of same x cs ≡ 0 = sym (looked_up same x cs) ∙ ap (λ o. unwrap_or o 0) none in
+    inserted same x n n cs (omega (arith, nothing))
+
 -- whether the ballots behind two references are equal
 abbrev pub same_row : Bor (List ℕ) → Bor (List ℕ) → Bool
 same_row a b = bytes_eq a.now b.now
@@ -265,13 +284,18 @@ seen_add row n (e ∷ es) = elim (bool_of (bytes_eq row.now e.0.now)) [
   | inr f ↦ rw f (ap (λ r. (e.0.now, e.1) ∷ r) (seen_add row n es))
 ]
 
--- the lookup and the insertion by a reference to a ballot
-pub looked_up_row : (row : Bor (List ℕ)) (es : List (Bor (List ℕ) × ℕ)) → unwrap_or (lookup (same_row row) es) 0 ≡ count_of bytes_eq row.now (seen es)
-looked_up_row row es = looked_up same_row row es ∙ seen_count row es
+-- the same by a reference to a ballot
+pub raised_row : (row : Bor (List ℕ)) (n v : ℕ) (es : List (Bor (List ℕ) × ℕ)) → lookup (same_row row) es ≡ Some v
+    → seen (set_value (same_row row) es (v + n)) ≡ add_class bytes_eq row.now n (seen es)
+raised_row row n v es at = ap seen (raised same_row row n v es at) ∙ seen_add row n es
 
-pub inserted_row : (row : Bor (List ℕ)) (n m : ℕ) (es : List (Bor (List ℕ) × ℕ)) → m ≡ count_of bytes_eq row.now (seen es) + n
-    → seen (insert_entry same_row es row m) ≡ add_class bytes_eq row.now n (seen es)
-inserted_row row n m es is = ap seen (inserted same_row row n m es (rw (seen_count row es) is)) ∙ seen_add row n es
+pub found_row : (row : Bor (List ℕ)) (v : ℕ) (es : List (Bor (List ℕ) × ℕ)) → lookup (same_row row) es ≡ Some v
+    → count_of bytes_eq row.now (seen es) ≡ v
+found_row row v es at = sym (seen_count row es) ∙ found_count same_row row v es at
+
+pub added_row : (row : Bor (List ℕ)) (n : ℕ) (es : List (Bor (List ℕ) × ℕ)) → lookup (same_row row) es ≡ None
+    → seen (insert_entry same_row es row n) ≡ add_class bytes_eq row.now n (seen es)
+added_row row n es none = ap seen (added same_row row n es none) ∙ seen_add row n es
 
 -- ---- classes of classes
 -- so many items of a key that is there, and then of others

@@ -36,24 +36,20 @@ impl Classes {
     }
 
     /// Counts so many more ballots of this key. A new key stands last.
-    #[tactic(auto, using(crate::proofs::Counts::inserted, crate::proofs::Counts::still_classes))]
+    #[tactic(auto, using(crate::proofs::Counts::still_classes))]
     pub fn add(&mut self, key: u64, count: u32) -> Result<(), Memory>
         requires some { 1 ≤ count }
         requires few { count_of nat_eq key self.old + count ≤ MOST_BALLOTS }
         ensures added { OnOk result (self.new ≡ add_class nat_eq key count self.old) }
         ensures unchanged { OnErr result (self.new ≡ self.old) }
     {
-        let before = self.counted(key);
-        self.counts.insert(key, before + count)?;
+        match self.counts.get_mut(&key) {
+            Some(known) => *known += count,
+            None => {
+                self.counts.insert(key, count)?;
+            }
+        }
         Ok(())
-    }
-
-    /// How many ballots of this key are counted.
-    #[tactic(auto, using(crate::proofs::Counts::looked_up))]
-    fn counted(&self, key: u64) -> u32
-        ensures { result ≡ count_of nat_eq key self.now }
-    {
-        self.counts.get(&key).copied().unwrap_or(0)
     }
 
     /// How many classes there are.

@@ -38,23 +38,19 @@ impl<'a> Kinds<'a> {
     }
 
     /// Counts a ballot.
-    #[tactic(auto, using(crate::proofs::Counts::inserted_row, crate::proofs::Counts::still_kinds))]
+    #[tactic(auto, using(crate::proofs::Counts::still_kinds))]
     pub(crate) fn add(&mut self, row: &'a [Cand]) -> Result<(), Memory>
         requires few { count_of bytes_eq row.now self.old + 1 ≤ MOST_BALLOTS }
         ensures added { OnOk result (self.new ≡ add_class bytes_eq row.now 1 self.old) }
         ensures unchanged { OnErr result (self.new ≡ self.old) }
     {
-        let before = self.counted(row);
-        self.counts.insert(row, before + 1)?;
+        match self.counts.get_mut(row) {
+            Some(known) => *known += 1,
+            None => {
+                self.counts.insert(row, 1)?;
+            }
+        }
         Ok(())
-    }
-
-    /// How many of this ballot are counted.
-    #[tactic(auto, using(crate::proofs::Counts::looked_up_row))]
-    fn counted(&self, row: &[Cand]) -> u32
-        ensures { result ≡ count_of bytes_eq row.now self.now }
-    {
-        self.counts.get(row).copied().unwrap_or(0)
     }
 
     /// How many kinds there are.
