@@ -38,18 +38,22 @@ pub record WentOn (old new : Outside) (words : List (List ℕ)) (name : List ℕ
 abbrev pub CertCause : Outside → Outside → List (List ℕ) → Type 0
 CertCause old new words = (name : List ℕ) × (k : NamedPoll) × WentOn old new words name k
     × ((IsLong (source_of old new) name LONGEST_TEXT × SaysLine old new (line_of run_fault.LongCertificate))
-    ⊎ ((fault : CertFault) × IsFaultyCert (source_of old new) name fault × SaysLine old new (line_of (run_fault.Certificate fault))))
+    ⊎ ((fault : CertFault) × IsFaultyCert (source_of old new) name fault
+    × SaysLine old new (line_of (run_fault.Certificate fault))))
 
 -- why a run ends with a file that can't be read: that file is named, and the reading stopped at no other. It is the
 -- ballot file, and no other was begun, or the certificate file of a check whose ballot file is accepted
 abbrev pub ReadCause : Outside → Outside → List (List ℕ) → Type 0
-ReadCause old new words = (name : List ℕ) × IsUnread (source_of old new) name × SaysLine old new (line_of (run_fault.Read name))
-    × ((BallotFile (meaning words) name × Began (source_of old new) 1) ⊎ ((k : NamedPoll) × WentOn old new words name k))
+ReadCause old new words = (name : List ℕ) × IsUnread (source_of old new) name
+    × SaysLine old new (line_of (run_fault.Read name))
+    × ((BallotFile (meaning words) name × Began (source_of old new) 1)
+    ⊎ ((k : NamedPoll) × WentOn old new words name k))
 
 -- why a check ends well: it wrote whole that the certificate is valid, and it is, and its claim is true
 abbrev pub ValidCause : Outside → Outside → List (List ℕ) → List ℕ → Type 0
 ValidCause old new words name = (k : NamedPoll) × (cert : Cert)
-    × WentOn old new words name k × IsCertFile (source_of old new) name cert × IsJudged cert.rule × IsValidCert k.poll cert × ClaimIsTrue k.poll cert
+    × WentOn old new words name k × IsCertFile (source_of old new) name cert × IsJudged cert.rule
+    × IsValidCert k.poll cert × ClaimIsTrue k.poll cert
     × Took old.out.taken new.out.taken (valid_text cert)
 
 -- why a run ends with a refusal: a check wrote it whole, and the certificate isn't valid for this reason
@@ -60,24 +64,31 @@ RefusalCause old new words = (name : List ℕ) × (k : NamedPoll) × (cert : Cer
 
 -- each status and its cause
 pub record Causes (old new : Outside) (words : List (List ℕ)) (s : Status) : Type 0 where
-  pub words_only : s ≡ Words → (fault : WordFault) × (meaning words ≡ Err fault) × SaysLine old new (line_of (run_fault.Words fault))
-  pub words_come : (fault : WordFault) → meaning words ≡ Err fault → EndsWith old new s Words (line_of (run_fault.Words fault))
+  pub words_only : s ≡ Words → (fault : WordFault) × (meaning words ≡ Err fault)
+      × SaysLine old new (line_of (run_fault.Words fault))
+  pub words_come : (fault : WordFault) → meaning words ≡ Err fault →
+      EndsWith old new s Words (line_of (run_fault.Words fault))
   pub no_command : IsNoCommand (meaning words) → s ≡ Words
   -- the ballot file is then the one file that was begun
   pub ballots : s ≡ Ballots → (file : List ℕ) × BallotFile (meaning words) file × Began (source_of old new) 1
       × ((IsLong (source_of old new) file LONGEST_FILE × SaysLine old new (line_of run_fault.Long))
-      ⊎ ((fault : BallotFault) × IsFaultyFile (source_of old new) file fault × SaysLine old new (line_of (run_fault.Ballots fault))))
+      ⊎ ((fault : BallotFault) × IsFaultyFile (source_of old new) file fault
+      × SaysLine old new (line_of (run_fault.Ballots fault))))
   pub certificate : s ≡ Certificate → CertCause old new words
   pub read : s ≡ Read → ReadCause old new words
   pub write : s ≡ Write → Rose old.out.faults new.out.faults
-      × ((output : Output) × Allowed (source_of old new) words (Ok output) × TookFirst old.out.taken new.out.taken output.text)
+      × ((output : Output) × Allowed (source_of old new) words (Ok output)
+      × TookFirst old.out.taken new.out.taken output.text)
       × SaysLine old new (codes "mov: write failed\n")
   pub memory : s ≡ Memory → SaysLine old new (line_of run_fault.Memory)
   -- no more files were begun than the words name
   pub begun : BeganAtMost (source_of old new) (file_count (meaning words))
   pub silent : IsEarlyEnd s → new.out ≡ old.out
-  pub quiet : IsWritten s → (new.err ≡ old.err) × (new.files.faults ≡ old.files.faults) × (new.out.faults ≡ old.out.faults)
-  pub done : s ≡ Done → (text : List ℕ) × Allowed (source_of old new) words (Ok (record { ends = Done; text = text })) × Took old.out.taken new.out.taken text
+  pub quiet : IsWritten s → (new.err ≡ old.err) × (new.files.faults ≡ old.files.faults)
+      × (new.out.faults ≡ old.out.faults)
+  pub done : s ≡ Done → (text : List ℕ)
+      × Allowed (source_of old new) words (Ok (record { ends = Done; text = text }))
+      × Took old.out.taken new.out.taken text
   pub valid : s ≡ Done → (file name : List ℕ) → meaning words ≡ Ok (Check file name) → ValidCause old new words name
   pub refused : s ≡ Refused → RefusalCause old new words
   pub no_bounds : s ≡ Bounds → ⊥

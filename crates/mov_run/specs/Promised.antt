@@ -54,22 +54,29 @@ pub record SaysRefused (old new : Outside) (s : Status) (k : NamedPoll) (cert : 
 -- what `check` of a told certificate file writes
 pub record WritesVerdict (old new : Outside) (words : List (List ℕ)) (s : Status) : Type 0 where
   -- a certificate is said to be valid, or refused
-  pub judged : (name : List ℕ) (k : NamedPoll) (cert : Cert) → ChecksOver old new words name k → IsToldCert old name cert → IsUntroubled old new s →
+  pub judged : (name : List ℕ) (k : NamedPoll) (cert : Cert) → ChecksOver old new words name k →
+      IsToldCert old name cert → IsUntroubled old new s →
       SaysValid old new s k cert ⊎ SaysRefused old new s k cert
   -- a valid one is said to be valid, as far as its rule is known
-  pub valid : (name : List ℕ) (k : NamedPoll) (cert : Cert) → ChecksOver old new words name k → IsToldCert old name cert → IsUntroubled old new s →
+  pub valid : (name : List ℕ) (k : NamedPoll) (cert : Cert) → ChecksOver old new words name k →
+      IsToldCert old name cert → IsUntroubled old new s →
       IsJudged cert.rule → IsValidCert k.poll cert → SaysValid old new s k cert
   -- one that isn't is refused for the first reason, with its line
-  pub refused : (name : List ℕ) (k : NamedPoll) (cert : Cert) → ChecksOver old new words name k → IsToldCert old name cert → IsUntroubled old new s →
+  pub refused : (name : List ℕ) (k : NamedPoll) (cert : Cert) → ChecksOver old new words name k →
+      IsToldCert old name cert → IsUntroubled old new s →
       (reason : Reason) (line : ℕ) → IsRefusal k.poll cert reason line → IsRefused old new s (refused_text reason line)
   -- a text that is no certificate is told its first fault
-  pub faulty : (name bytes : List ℕ) (k : NamedPoll) (fault : CertFault) → ChecksOver old new words name k → Tells old.files.told name bytes → length bytes ≤ LONGEST_TEXT →
+  pub faulty : (name bytes : List ℕ) (k : NamedPoll) (fault : CertFault) → ChecksOver old new words name k →
+      Tells old.files.told name bytes → length bytes ≤ LONGEST_TEXT →
       cert_at bytes ≡ Err fault → EndsWith old new s Certificate (line_of (run_fault.Certificate fault))
-  pub long : (name bytes : List ℕ) (k : NamedPoll) → ChecksOver old new words name k → Tells old.files.told name bytes → LONGEST_TEXT < length bytes →
+  pub long : (name bytes : List ℕ) (k : NamedPoll) → ChecksOver old new words name k →
+      Tells old.files.told name bytes → LONGEST_TEXT < length bytes →
       EndsWith old new s Certificate (line_of run_fault.LongCertificate)
-  pub absent : (name : List ℕ) (k : NamedPoll) → ChecksOver old new words name k → Lacks old.files.told name → EndsWith old new s Read (line_of (run_fault.Read name))
+  pub absent : (name : List ℕ) (k : NamedPoll) → ChecksOver old new words name k → Lacks old.files.told name →
+      EndsWith old new s Read (line_of (run_fault.Read name))
   -- and where it is one, the run ends neither with its fault nor with a file unread
-  pub accepted : (name : List ℕ) (k : NamedPoll) (cert : Cert) → ChecksOver old new words name k → IsToldCert old name cert → (s ≡ Certificate → ⊥) × (s ≡ Read → ⊥)
+  pub accepted : (name : List ℕ) (k : NamedPoll) (cert : Cert) → ChecksOver old new words name k →
+      IsToldCert old name cert → (s ≡ Certificate → ⊥) × (s ≡ Read → ⊥)
 
 -- ---- the other commands
 
@@ -78,33 +85,41 @@ abbrev pub WritesMargin : Outside → Outside → List (List ℕ) → Status →
 WritesMargin old new words s =
     (rule : Rule) (file : List ℕ) (k : NamedPoll) → meaning words ≡ Ok (Margin rule file) → IsToldContest old file k →
     IsUntroubled old new s →
-    (cert : Cert) × (text : List ℕ) × IsCertOf rule DEFAULT_BUDGET k.poll cert × CertText text cert × IsDone old new s text
+    (cert : Cert) × (text : List ℕ) × IsCertOf rule DEFAULT_BUDGET k.poll cert × CertText text cert
+    × IsDone old new s text
 
 -- `tally` of a told and accepted file under a rule writes the text of the tally of its contest
 abbrev pub WritesTally : Outside → Outside → List (List ℕ) → Status → Type 0
 WritesTally old new words s =
-    (rule : Rule) (file : List ℕ) (k : NamedPoll) → meaning words ≡ Ok (Tally rule file) → IsToldContest old file k → IsUntroubled old new s →
+    (rule : Rule) (file : List ℕ) (k : NamedPoll) → meaning words ≡ Ok (Tally rule file) → IsToldContest old file k →
+    IsUntroubled old new s →
     (text : List ℕ) × IsTally rule k text × IsDone old new s text
 
 -- `show` of a told and accepted file writes it in the plain form
 abbrev pub WritesPlain : Outside → Outside → List (List ℕ) → Status → Type 0
 WritesPlain old new words s =
-    (file : List ℕ) (k : NamedPoll) → meaning words ≡ Ok (Show file) → IsToldContest old file k → IsUntroubled old new s →
+    (file : List ℕ) (k : NamedPoll) → meaning words ≡ Ok (Show file) → IsToldContest old file k →
+    IsUntroubled old new s →
     IsDone old new s (plain_form k)
 
 -- the job has a certificate file, and it is known to be absent
 abbrev pub LacksCert : Outside → List (List ℕ) → Type 0
-LacksCert old words = (file : List ℕ) × (name : List ℕ) × (meaning words ≡ Ok (Check file name)) × Lacks old.files.told name
+LacksCert old words = (file : List ℕ) × (name : List ℕ) × (meaning words ≡ Ok (Check file name))
+    × Lacks old.files.told name
 
 -- a job whose ballot file is told and not accepted ends with what is wrong with the file
 pub record RefusesBallots (old new : Outside) (words : List (List ℕ)) (s : Status) : Type 0 where
-  pub faulty : (file bytes : List ℕ) (fault : BallotFault) → BallotFile (meaning words) file → Tells old.files.told file bytes → (Rose old.files.faults new.files.faults → ⊥) →
+  pub faulty : (file bytes : List ℕ) (fault : BallotFault) → BallotFile (meaning words) file →
+      Tells old.files.told file bytes → (Rose old.files.faults new.files.faults → ⊥) →
       IsFaulty bytes fault → EndsWith old new s Ballots (line_of (run_fault.Ballots fault))
-  pub long : (file bytes : List ℕ) → BallotFile (meaning words) file → Tells old.files.told file bytes → (Rose old.files.faults new.files.faults → ⊥) →
+  pub long : (file bytes : List ℕ) → BallotFile (meaning words) file → Tells old.files.told file bytes →
+      (Rose old.files.faults new.files.faults → ⊥) →
       LONGEST_FILE < length bytes → EndsWith old new s Ballots (line_of run_fault.Long)
-  pub absent : (file : List ℕ) → BallotFile (meaning words) file → Lacks old.files.told file → (Rose old.files.faults new.files.faults → ⊥) →
+  pub absent : (file : List ℕ) → BallotFile (meaning words) file → Lacks old.files.told file →
+      (Rose old.files.faults new.files.faults → ⊥) →
       EndsWith old new s Read (line_of (run_fault.Read file))
-  pub accepted : (file : List ℕ) (k : NamedPoll) → BallotFile (meaning words) file → IsToldContest old file k → (Rose old.files.faults new.files.faults → ⊥) →
+  pub accepted : (file : List ℕ) (k : NamedPoll) → BallotFile (meaning words) file → IsToldContest old file k →
+      (Rose old.files.faults new.files.faults → ⊥) →
       (s ≡ Ballots → ⊥) × (s ≡ Read → LacksCert old words)
 
 pub record Promised (old new : Outside) (words : List (List ℕ)) (s : Status) : Type 0 where

@@ -22,9 +22,11 @@ word_line_of word.Memory = codes "mov: out of memory\n"
 -- the line that says why a run ended early
 abbrev pub line_of : RunFault → List ℕ
 line_of (Words fault) = word_line_of fault
-line_of (Ballots fault) = codes "mov: ballots: record " ++ (decimal fault.at ++ (codes ": " ++ (ballot_kind_text fault.kind ++ codes "\n")))
+line_of (Ballots fault) = codes "mov: ballots: record "
+    ++ (decimal fault.at ++ (codes ": " ++ (ballot_kind_text fault.kind ++ codes "\n")))
 line_of Long = codes "mov: ballots: longer than " ++ (decimal LONGEST_FILE ++ codes " bytes\n")
-line_of (Certificate fault) = codes "mov: certificate: line " ++ (decimal fault.line ++ (codes ": " ++ (cert_kind_text fault.kind ++ codes "\n")))
+line_of (Certificate fault) = codes "mov: certificate: line "
+    ++ (decimal fault.line ++ (codes ": " ++ (cert_kind_text fault.kind ++ codes "\n")))
 line_of LongCertificate = codes "mov: certificate: longer than " ++ (decimal LONGEST_TEXT ++ codes " bytes\n")
 line_of (Read name) = codes "mov: read failed: " ++ (name ++ codes "\n")
 line_of Memory = codes "mov: out of memory\n"

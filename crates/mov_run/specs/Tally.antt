@@ -57,7 +57,8 @@ pairs_text c pref = for_each 0 c (pairs_of c pref)
 
 -- the line of a party, its votes and its seats
 abbrev pub party_text : (ℕ → ℕ) → (ℕ → ℕ) → ℕ → List ℕ
-party_text votes seats a = line_text (codes "votes" ∷ decimal a ∷ decimal (votes a) ∷ codes "seats" ∷ decimal (seats a) ∷ [])
+party_text votes seats a = line_text (codes "votes" ∷ decimal a ∷ decimal (votes a) ∷ codes "seats"
+    ∷ decimal (seats a) ∷ [])
 
 -- a line for each of c parties, with its votes and its seats
 abbrev pub seats_text : ℕ → (ℕ → ℕ) → (ℕ → ℕ) → List ℕ
@@ -70,7 +71,8 @@ held_field stands held x = if stands x then decimal (held x) else codes "-"
 -- the line of the round with the number i + 1 of c candidates, of whom `out` goes out in it
 abbrev pub round_text : ℕ → (ℕ → Bool) → (ℕ → ℕ) → ℕ → ℕ → List ℕ
 round_text c stands held i out =
-    line_text (codes "round" ∷ decimal (i + 1) ∷ codes "out" ∷ decimal out ∷ codes "held" ∷ map (held_field stands held) (range_with_len 0 c))
+    line_text (codes "round" ∷ decimal (i + 1) ∷ codes "out" ∷ decimal out ∷ codes "held"
+    ∷ map (held_field stands held) (range_with_len 0 c))
 
 -- the line of the round in which the one at place i of the order goes out, those before it having gone
 abbrev pub round_of : Poll → List ℕ → ℕ → List ℕ
@@ -102,7 +104,8 @@ AddsCount rule p old new = (text : List ℕ) × IsCounted rule p text × (new �
 
 -- the lines above the count
 abbrev pub head_text : Rule → NamedPoll → List ℕ
-head_text rule k = rule_text rule ++ (line_text (codes "size" ∷ decimal k.poll.c ∷ decimal (length k.poll.ballots) ∷ []) ++ names_text k.names)
+head_text rule k = rule_text rule
+    ++ (line_text (codes "size" ∷ decimal k.poll.c ∷ decimal (length k.poll.ballots) ∷ []) ++ names_text k.names)
 
 -- the text of the tally of a contest under a rule
 pub record IsTally (rule : Rule) (k : NamedPoll) (text : List ℕ) : Type 0 where

@@ -15,7 +15,8 @@ valid_text cert = line_text (codes "VALID" ∷ []) ++ (rule_text cert.rule ++ li
 
 -- what is said of a refused one: the number and the name of the reason, and the line
 abbrev pub refused_text : Reason → ℕ → List ℕ
-refused_text reason line = line_text (codes "REFUSED" ∷ decimal (reason_number reason) ∷ reason_name reason ∷ codes "line" ∷ decimal line ∷ [])
+refused_text reason line = line_text (codes "REFUSED" ∷ decimal (reason_number reason) ∷ reason_name reason
+    ∷ codes "line" ∷ decimal line ∷ [])
 
 -- the text of a verdict
 abbrev pub verdict_text : Cert → Verdict → List ℕ

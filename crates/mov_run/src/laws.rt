@@ -6,5 +6,6 @@ ghost use Rattle.mov_run.specs.Tally.{IsTally};
 
 /// A contest has one tally under a rule.
 pub fn a_tally_is_one_text()
-    ensures { (rule : ARule) (k : NamedPoll) (text other : List ℕ) → IsTally rule k text → IsTally rule k other → text ≡ other }
+    ensures { (rule : ARule) (k : NamedPoll) (text other : List ℕ) → IsTally rule k text → IsTally rule k other →
+        text ≡ other }
 {}

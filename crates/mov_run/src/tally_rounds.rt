@@ -56,7 +56,8 @@ fn push_round(
     requires size { length counts.old ≡ roll.now.c }
     requires few { roll.now.c ≤ 12 }
     requires set { standing < 2 ^ roll.now.c }
-    ensures { OnOk result (out.new.items ≡ out.old.items ++ round_text roll.now.c (stands standing) (held_count (stands standing) roll.now.ballots) i gone) }
+    ensures { OnOk result (out.new.items ≡ out.old.items
+        ++ round_text roll.now.c (stands standing) (held_count (stands standing) roll.now.ballots) i gone) }
 {
     held_counts(roll, standing, counts);
     push_gone(out, u64::from(i) + 1, u64::from(gone))?;
@@ -67,7 +68,8 @@ fn push_round(
 
 /// Adds the first words of the line of a round, in which `gone` goes out.
 fn push_gone(out: &mut Vec<u8>, round: u64, gone: u64) -> Result<(), Memory>
-    ensures { OnOk result (out.new.items ≡ out.old.items ++ join_with_byte 32 (codes "round" ∷ decimal round ∷ codes "out" ∷ decimal gone ∷ codes "held" ∷ [])) }
+    ensures { OnOk result (out.new.items ≡ out.old.items
+        ++ join_with_byte 32 (codes "round" ∷ decimal round ∷ codes "out" ∷ decimal gone ∷ codes "held" ∷ [])) }
 {
     out.extend_from_slice(b"round")?;
     push_number(out, round)?;
@@ -80,7 +82,8 @@ fn push_gone(out: &mut Vec<u8>, round: u64, gone: u64) -> Result<(), Memory>
 /// Adds what each candidate holds, and a dash for one that is out.
 fn push_held(out: &mut Vec<u8>, standing: u64, counts: &[u32]) -> Result<(), Memory>
     requires { length counts.now ≤ 12 }
-    ensures { OnOk result (out.new.items ≡ out.old.items ++ for_each 0 (length counts.now) (λ x. 32 ∷ held_field (stands standing) (λ y. slice_index counts.now y) x)) }
+    ensures { OnOk result (out.new.items ≡ out.old.items
+        ++ for_each 0 (length counts.now) (λ x. 32 ∷ held_field (stands standing) (λ y. slice_index counts.now y) x)) }
 {
     for x in 0..counts.len() as u8 {
         push_field(out, stands_in(standing, x), counts[x as usize])?;

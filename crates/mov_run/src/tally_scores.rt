@@ -34,7 +34,8 @@ pub(crate) fn push_borda(alloc: Global, out: &mut Vec<u8>, roll: &Roll) -> Resul
 
 /// Adds a line for each score.
 fn push_scores(out: &mut Vec<u8>, scores: &[u64]) -> Result<(), Memory>
-    ensures { OnOk result (out.new.items ≡ out.old.items ++ scores_text (length scores.now) (λ x. slice_index scores.now x)) }
+    ensures { OnOk result (out.new.items ≡ out.old.items
+        ++ scores_text (length scores.now) (λ x. slice_index scores.now x)) }
 {
     for x in 0..scores.len() {
         push_two(out, b"score", x as u64, scores[x])?;

@@ -35,7 +35,8 @@ pub(crate) fn push_dhondt(
 /// Adds a line for each party.
 fn push_shares(out: &mut Vec<u8>, votes: &[u64], shares: &[u16]) -> Result<(), Memory>
     requires { length shares.now ≡ length votes.now }
-    ensures { OnOk result (out.new.items ≡ out.old.items ++ seats_text (length votes.now) (λ a. slice_index votes.now a) (λ a. slice_index shares.now a)) }
+    ensures { OnOk result (out.new.items ≡ out.old.items
+        ++ seats_text (length votes.now) (λ a. slice_index votes.now a) (λ a. slice_index shares.now a)) }
 {
     for a in 0..votes.len() {
         push_share(out, a as u64, votes[a], shares[a])?;
@@ -45,7 +46,8 @@ fn push_shares(out: &mut Vec<u8>, votes: &[u64], shares: &[u16]) -> Result<(), M
 
 /// Adds the line of a party.
 fn push_share(out: &mut Vec<u8>, party: u64, votes: u64, seats: u16) -> Result<(), Memory>
-    ensures { OnOk result (out.new.items ≡ out.old.items ++ line_text (codes "votes" ∷ decimal party ∷ decimal votes ∷ codes "seats" ∷ decimal seats ∷ [])) }
+    ensures { OnOk result (out.new.items ≡ out.old.items
+        ++ line_text (codes "votes" ∷ decimal party ∷ decimal votes ∷ codes "seats" ∷ decimal seats ∷ [])) }
 {
     out.extend_from_slice(b"votes")?;
     push_number(out, party)?;

@@ -27,10 +27,11 @@ IsGrouped {X} xs cs = (f : X → ℕ) → add_up f xs ≡ add_up (λ c. c.1 * f 
 
 -- a first part of the list has k, and not l
 abbrev pub IsSeenBefore : {X : Type 0} → List X → X → X → Type 0
-IsSeenBefore {X} xs k l = (before : List X) × (later : List X) × (xs ≡ before ++ later) × Contains before k × (Contains before l → ⊥)
+IsSeenBefore {X} xs k l = (before : List X) × (later : List X) × (xs ≡ before ++ later) × Contains before k
+    × (Contains before l → ⊥)
 
--- the classes of items that are keys themselves: each key is that of some item, and each item's is one of them; no key stands twice;
--- each item is counted, once; the keys stand in the order in which they are first seen
+-- the classes of items that are keys themselves: each key is that of some item, and each item's is one of them; no key
+-- stands twice; each item is counted, once; the keys stand in the order in which they are first seen
 pub record AreClasses {X : Type 0} (xs : List X) (cs : List (X × ℕ)) : Type 0 where
   pub keys : (x : X) → Contains xs x ↔ Contains (keys_of cs) x
   pub distinct : AllPairs (λ k l. k ≢ l) (keys_of cs)

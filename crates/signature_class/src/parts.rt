@@ -9,7 +9,8 @@ use mov_base::Memory;
 use std::alloc::Global;
 use std::marker::Model;
 
-/// The distinct ballots of a roll, borrowed from it, each with how many there are of it, in the order in which they are first seen.
+/// The distinct ballots of a roll, borrowed from it, each with how many there are of it, in the order in which they are
+/// first seen.
 #[derive(Drop)]
 pub struct Kinds<'a> {
     counts: IndexMap<&'a [Cand], u32>,

@@ -20,8 +20,8 @@ pub fn kinds<'a>(alloc: Global, roll: &'a Roll) -> Result<Kinds<'a>, Memory>
     Ok(kinds)
 }
 
-/// The distinct first candidates of the roll's ballots, each as the ballot up to it, in the order in which they are first seen, each
-/// with how many ballots begin so. There are at most one more of these than there are candidates.
+/// The distinct first candidates of the roll's ballots, each as the ballot up to it, in the order in which they are
+/// first seen, each with how many ballots begin so. There are at most one more of these than there are candidates.
 #[tactic(auto, using(crate::proofs::Counts::kinds_more, crate::proofs::Counts::few_of_row))]
 pub fn first_kinds<'a>(alloc: Global, roll: &'a Roll) -> Result<Kinds<'a>, Memory>
     ensures { IfOk result (λ kinds. kinds ≡ classes_of bytes_eq (map first_part_of roll.now.ballots)) }
