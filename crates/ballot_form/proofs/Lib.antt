@@ -1,5 +1,7 @@
-pub mod Polls
-pub mod Lengths
-pub mod Places
 pub mod Counting
 pub mod FirstCounts
+pub mod Given
+pub mod Kept
+pub mod Lengths
+pub mod Places
+pub mod Polls

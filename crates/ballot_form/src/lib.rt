@@ -8,11 +8,13 @@
 mod contest;
 mod firsts;
 mod limits;
+mod marks;
 mod outcome;
 mod ranking;
 mod roll;
 mod rows;
 mod rule;
+mod runs;
 mod text;
 mod valid;
 
@@ -25,6 +27,7 @@ pub use ranking::Ranking;
 pub use roll::{PushFault, Roll};
 pub use rows::Rows;
 pub use rule::{Rule, RuleName};
+pub use runs::{Run, Runs};
 pub use text::{Names, Text};
 pub use valid::valid_row;
 

@@ -1,10 +1,12 @@
 // Rolls of ballots.
-ghost use Rattle.std.specs.Prelude.{◌≡◌, ◌+◌, ◌++◌, ◌↔◌, ◌<◌, ◌≤◌, [], length, slice_get, Some, IfOk, IsErrOf, IfSome, OnOk, OnErr, replicate};
-ghost use Rattle.ballot_form.specs.Ballots.{AreDistinct, IsPoll, IsValidBallot};
+ghost use Rattle.std.specs.Prelude.{◌≡◌, ◌+◌, ◌++◌, ◌↔◌, ◌<◌, ◌≤◌, ◌^◌, ◌∷◌, ℕ, [], length, slice_get, Some, IsErrOf, IfSome, OnOk, OnErr, replicate};
+ghost use Rattle.ballot_form.specs.Ballots.{IsPoll, IsValidBallot};
+ghost use Rattle.ballot_form.specs.Marks.{AreKept, AreMarks, ballots_of};
 ghost use Rattle.ballot_form.specs.Scores.{first_of};
 ghost use Rattle.ballot_form.specs.declared.roll.PushFault.TheVariants.{Memory};
 
-use crate::{Cand, MOST_BALLOTS, MOST_CANDIDATES, Ranking, Rows};
+use crate::marks::{Mark, ends_with, row_at};
+use crate::{Cand, MOST_BALLOTS, MOST_CANDIDATES, Rows, Runs};
 use mov_base::Memory;
 use std::alloc::Global;
 use std::marker::Model;
@@ -26,21 +28,25 @@ impl From<Memory> for PushFault {
     }
 }
 
-/// A number of candidates and a list of valid ballots, numbered from 1.
+/// A number of candidates and a list of valid ballots, numbered from 1. Equal ballots that stand together are kept once, with a
+/// mark of eight bytes.
 #[derive(Debug, Drop)]
 pub struct Roll {
     candidates: u8,
-    ballots: Vec<Ranking>,
+    len: u32,
+    marks: Vec<Mark>,
+    cells: Vec<Cand>,
 }
 
 impl Model for Roll {
-    ghost use Rattle.ballot_form.specs.Ballots.{Poll, IsPoll};
+    ghost use Rattle.ballot_form.specs.Ballots.{Poll};
+    ghost use Rattle.ballot_form.specs.Marks.{AreKept, ballots_of};
 
     ghost Value = { Poll };
 
-    ghost view = { λ r. record { c = r.candidates; ballots = r.ballots.items } };
+    ghost view = { λ r. record { c = r.candidates; ballots = ballots_of r.marks.items r.cells.items r.len } };
 
-    ghost invariant = { λ r. IsPoll (record { c = r.candidates; ballots = r.ballots.items }) };
+    ghost invariant = { λ r. AreKept r.candidates r.len r.marks.items r.cells.items };
 }
 
 impl Roll {
@@ -52,7 +58,9 @@ impl Roll {
     {
         Roll {
             candidates: c,
-            ballots: Vec::new(alloc),
+            len: 0,
+            marks: Vec::new(alloc),
+            cells: Vec::new(alloc),
         }
     }
 
@@ -65,22 +73,24 @@ impl Roll {
     }
 
     /// How many ballots the roll has.
+    #[tactic(auto, using(crate::proofs::Kept::length_ballots))]
     pub fn len(&self) -> u32
         ensures value { result ≡ length self.now.ballots }
         ensures few { result ≤ MOST_BALLOTS }
         ensures poll { IsPoll self.now }
     {
-        self.ballots.len() as u32
+        self.len
     }
 
     /// Lends the ballot with the number `i + 1`.
+    #[tactic(auto, using(crate::proofs::Polls::valid_at))]
     pub fn row(&self, i: u32) -> &[Cand]
         requires { i < length self.now.ballots }
         ensures value { slice_get self.now.ballots i ≡ Some result.now }
         ensures valid { IsValidBallot self.now.c result.now }
         ensures poll { IsPoll self.now }
     {
-        self.ballots[i as usize].as_slice()
+        row_at(self.marks.as_slice(), self.cells.as_slice(), self.len, i)
     }
 
     /// The first candidate on the ballot with the number `i + 1`, and none exactly where that ballot is blank.
@@ -97,7 +107,20 @@ impl Roll {
         ensures value { result ≡ self.now.ballots }
         ensures poll { IsPoll self.now }
     {
-        Rows::of(self.ballots.as_slice())
+        Rows::of(self.runs())
+    }
+
+    /// The longest runs of equal ballots, in order. It takes no memory.
+    pub fn runs(&self) -> Runs<'_>
+        ensures value { result ≡ record { c = self.now.c; first = 1; ballots = self.now.ballots } }
+        ensures poll { IsPoll self.now }
+    {
+        Runs::of(
+            self.candidates,
+            self.marks.as_slice(),
+            self.cells.as_slice(),
+            self.len,
+        )
     }
 
     /// Adds `count` equal ballots at the end.
@@ -107,24 +130,52 @@ impl Roll {
         ensures too_many { IsErrOf result PushFault.TooMany ↔ (MOST_BALLOTS < length self.old.ballots + count) }
         ensures err { OnErr result (self.new ≡ self.old) }
     {
-        if count > MOST_BALLOTS - self.ballots.len() as u32 {
+        if count > MOST_BALLOTS - self.len {
             return Err(PushFault::TooMany);
         }
-        let alloc = *self.ballots.allocator();
-        let mut more = equal_ballots(alloc, row, count)?;
-        self.ballots.append(&mut more)?;
+        push_run(&mut self.marks, &mut self.cells, self.len, row, count)?;
+        self.len += count;
         Ok(())
     }
 }
 
-/// So many equal ballots.
-fn equal_ballots(alloc: Global, row: &[Cand], count: u32) -> Result<Vec<Ranking>, Memory>
-    requires { AreDistinct row.now }
-    ensures { IfOk result (λ v. v.items ≡ replicate count row.now) }
+/// Adds `count` equal ballots behind `len` ballots, to the last run if that is of the same ballot.
+fn push_run(
+    marks: &mut Vec<Mark>,
+    cells: &mut Vec<Cand>,
+    len: u32,
+    row: &[Cand],
+    count: u32,
+) -> Result<(), Memory>
+    requires few { length cells.old.items + length row.now < 2 ^ 32 }
+    requires marks { AreMarks marks.old.items cells.old.items len }
+    ensures ok { OnOk result
+        (ballots_of marks.new.items cells.new.items (len + count) ≡ ballots_of marks.old.items cells.old.items len ++ replicate count row.now) }
+    ensures kept { (c : ℕ) → AreKept c len marks.old.items cells.old.items → IsValidBallot c row.now → len + count ≤ MOST_BALLOTS
+        → OnOk result (AreKept c (len + count) marks.new.items cells.new.items) }
+    ensures err { OnErr result ((marks.new.items ≡ marks.old.items) × (cells.new.items ≡ cells.old.items)) }
 {
-    let mut ballots = Vec::with_capacity(alloc, count as usize)?;
-    for _ in 0..count {
-        ballots.push(Ranking::from_slice(alloc, row)?)?;
+    if count == 0 || ends_with(marks.as_slice(), cells.as_slice(), len, row) {
+        return Ok(());
     }
-    Ok(ballots)
+    add_run(marks, cells, len, row)
+}
+
+/// Adds the mark and the candidates of a run behind `len` ballots.
+fn add_run(
+    marks: &mut Vec<Mark>,
+    cells: &mut Vec<Cand>,
+    len: u32,
+    row: &[Cand],
+) -> Result<(), Memory>
+    requires { length cells.old.items < 2 ^ 32 }
+    ensures marks { OnOk result (marks.new.items ≡ marks.old.items ++ record { start = length cells.old.items; first = len } ∷ []) }
+    ensures cells { OnOk result (cells.new.items ≡ cells.old.items ++ row.now) }
+    ensures err { OnErr result ((marks.new.items ≡ marks.old.items) × (cells.new.items ≡ cells.old.items)) }
+{
+    let start = cells.len() as u32;
+    marks.reserve(1)?;
+    cells.extend_from_slice(row)?;
+    marks.push(Mark { start, first: len }).unwrap();
+    Ok(())
 }

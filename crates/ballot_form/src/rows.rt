@@ -1,28 +1,34 @@
 // The ballots of a roll, one after another.
-use crate::{Cand, Ranking};
+use crate::{Cand, Runs};
 use std::marker::Model;
 
 /// The ballots of a roll, in order, each lent as a slice.
 #[derive(Drop)]
 pub struct Rows<'a> {
-    ballots: &'a [Ranking],
+    row: &'a [Cand],
+    count: u32,
+    runs: Runs<'a>,
 }
 
 impl<'a> Model for Rows<'a> {
-    ghost use Rattle.std.specs.Prelude.{List, ℕ};
+    ghost use Rattle.std.specs.Prelude.{List, ℕ, ◌++◌, replicate};
 
     ghost Value = { List (List ℕ) };
 
-    ghost view = { λ r. r.ballots.now };
+    ghost view = { λ r. replicate r.count r.row.now ++ r.runs.ballots };
 }
 
 impl<'a> Rows<'a> {
     ghost use Rattle.std.specs.Prelude.{◌≡◌};
 
-    pub(crate) fn of(ballots: &'a [Ranking]) -> Rows<'a>
-        ensures { result ≡ ballots.now }
+    pub(crate) fn of(runs: Runs<'a>) -> Rows<'a>
+        ensures { result ≡ runs.entry.ballots }
     {
-        Rows { ballots }
+        Rows {
+            row: &[],
+            count: 0,
+            runs,
+        }
     }
 }
 
@@ -36,8 +42,12 @@ impl<'a> Iterator for Rows<'a> {
     ghost remaining = { item_count (λ s. s) };
 
     fn next(&mut self) -> Option<&'a [Cand]> {
-        let (first, others) = self.ballots.split_first()?;
-        self.ballots = others;
-        Some(first.as_slice())
+        if self.count == 0 {
+            let run = self.runs.next()?;
+            self.row = run.row;
+            self.count = run.count;
+        }
+        self.count -= 1;
+        Some(self.row)
     }
 }
