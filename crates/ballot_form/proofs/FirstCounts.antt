@@ -1,24 +1,25 @@
 -- Counting first preferences.
-use Rattle.std.proofs.Common.{ℕ, List, [], Option, Bool, true, false, ◌≡◌, ◌<◌, ◌≤◌, ◌+◌, take, cond, length, get_or, slice_get, ap, arith, refl}
+use Rattle.std.proofs.Common.{ℕ, List, [], ◌∷◌, Bool, true, false, ◌≡◌, ◌≤◌, ◌<◌, ◌+◌, cond, length, arith, refl}
 use Rattle.std.specs.Prelude.{IfSome}
-use Rattle.std.proofs.lemmas.List.{take_all}
 use Rattle.std.proofs.lemmas.List.Recursion.{is_count_by}
-use Rattle.std.proofs.lemmas.Option.{slice_get-get_or}
-use Rattle.ballot_form.proofs.Counting.{count_by_at}
+use Rattle.std.proofs.lemmas.List.Sums.{count_by-le-length}
+use Rattle.ballot_form.specs.declared.runs.Run.{Run}
+use Rattle.ballot_form.specs.Ballots.{IsValidBallot}
+use Rattle.ballot_form.specs.Runs.{IsFirstRun, Left}
 use Rattle.ballot_form.specs.Scores.{first_count, first_of, is_first, is_some_of, plurality_points, score_of}
+use Rattle.ballot_form.proofs.RunSums.{count_of_run}
 
--- one ballot more
-pub first_more : (ballots : List (List ℕ)) (i : ℕ) (first : Option ℕ) (x : ℕ) → i < length ballots
-    → IfSome (slice_get ballots i) (λ ballot. first ≡ first_of ballot)
-    → first_count (take (i + 1) ballots) x ≡ first_count (take i ballots) x + cond (is_some_of first x) 1 0
-first_more ballots i first x within is =
-    let at = slice_get-get_or ballots i [] within in
-    let same : first ≡ first_of (get_or ballots i []) = rw at at is in
-    rw same (count_by_at (λ ballot. is_first ballot x) ballots i [] (is_first (get_or ballots i []) x) within (ap (λ ballot. is_first ballot x) cc))
+-- a run more
+pub firsts_of_run : (old : Left) (run : Run) (new : Left) (x : ℕ) → IsFirstRun old run new
+    → first_count old.ballots x ≡ cond (is_some_of (first_of run.row.now) x) run.count 0 + first_count new.ballots x
+firsts_of_run old run new x is = count_of_run (λ ballot. is_first ballot x) old run new is
 
--- all ballots are counted
-pub all_counted : (ballots : List (List ℕ)) (i x : ℕ) → length ballots ≤ i → first_count (take i ballots) x ≡ first_count ballots x
-all_counted ballots i x all = ap (λ taken. first_count taken x) (take_all i ballots all)
+pub first_count_le : (ballots : List (List ℕ)) (x : ℕ) → first_count ballots x ≤ length ballots
+first_count_le ballots x = count_by-le-length (λ ballot. is_first ballot x) ballots
+
+pub first_below : (c : ℕ) (row : List ℕ) → IsValidBallot c row → IfSome (first_of row) (λ x. x < c)
+first_below c [] valid = tt
+first_below c (x ∷ xs) valid = valid.below 0 x (omega arith)
 
 one_or_none : (b : Bool) (n : ℕ) → cond b 1 0 + n ≡ cond b (1 + n) n
 one_or_none true n = refl

@@ -21,9 +21,14 @@ start_le (m ∷ ms) cells len are = omega (arith, are.0, start_le ms cells len a
 pub length_ballots : (marks : List Mark) (cells : List ℕ) (len : ℕ) → AreMarks marks cells len → length (ballots_of marks cells len) + next_first marks len ≡ len
 length_ballots [] cells len are = omega arith
 length_ballots (m ∷ ms) cells len are =
-    omega (arith, are.1, first_le ms cells len are.3, length_ballots ms cells len are.3,
+    omega (
+      arith,
+      are.1,
+      first_le ms cells len are.3,
+      length_ballots ms cells len are.3,
       length-append (replicate (next_first ms len - m.first) (row_of m ms cells)) (ballots_of ms cells len),
-      length-replicate (next_first ms len - m.first) (row_of m ms cells))
+      length-replicate (next_first ms len - m.first) (row_of m ms cells),
+    )
 
 -- later runs begin later
 first_before : (marks : List Mark) (cells : List ℕ) (len k : ℕ) (d : Mark) → AreMarks marks cells len → k < length marks → next_first marks len ≤ (get_or marks k d).first
@@ -67,7 +72,7 @@ row_here (m ∷ []) cells len i (suc k) are from within some before after = absu
 row_here (m ∷ n ∷ ms) cells len i (suc k) are from within some before after =
     let past : n.first ≤ i = before 1 m (omega arith) in
     let rest = row_here (n ∷ ms) cells len i k are.3 past within (omega arith)
-      (λ j d le. before (suc j) d (omega arith)) (λ j d gt lt. after (suc j) d (omega arith) (omega arith)) in
+    (λ j d le. before (suc j) d (omega arith)) (λ j d gt lt. after (suc j) d (omega arith) (omega arith)) in
     get_behind (n.first - m.first) (i - n.first) (i - m.first) _ _ (omega (arith, are.1)) ∙ rest
 
 -- where a run starts and ends
@@ -103,7 +108,7 @@ row_found marks cells len i zero are from within some few before after = absurd 
 row_found marks cells len i (suc k) are from within some few before after =
     let one : suc k - 1 ≡ k = omega arith in
     let here = row_here marks cells len i k are (omega arith) (omega (arith, length_ballots marks cells len are)) (omega arith)
-      (λ j d le. before j d (omega arith)) (λ j d gt lt. after j d (omega arith) lt) in
+    (λ j d le. before j d (omega arith)) (λ j d gt lt. after j d (omega arith) lt) in
     rw one (ap (slice_get (ballots_of marks cells len)) (omega arith) ∙ here)
 
 -- the last run's ballot, by its place
@@ -130,17 +135,22 @@ pub more_equal : (marks : List Mark) (cells : List ℕ) (len n : ℕ) (row : Lis
 more_equal [] cells len n row are last = absurd (cc)
 more_equal (m ∷ []) cells len n row are last =
     let same : row_of m [] cells ≡ row = take_rest cells m.start ∙ (cc) in
-    let count : (len + n) - m.first ≡ (len - m.first) + n = omega (arith, are.1) in
-    (append-nil _ ∙ ap (λ k. replicate k (row_of m [] cells)) count ∙ sym (replicate-append-replicate (len - m.first) n (row_of m [] cells))
-      ∙ rw same (ap (λ xs. xs ++ replicate n row) (sym (append-nil (replicate (len - m.first) row)))),
-     (are.0, omega (arith, are.1), are.2, are.3))
+    let count : (len + n) - m.first ≡ (len - m.first) + n = omega (arith, are.1) in (
+      append-nil _ ∙ ap (λ k. replicate k (row_of m [] cells)) count ∙ sym (replicate-append-replicate (len - m.first) n (row_of m [] cells))
+          ∙ rw same (ap (λ xs. xs ++ replicate n row) (sym (append-nil (replicate (len - m.first) row)))),
+      (are.0, omega (arith, are.1), are.2, are.3),
+    )
 more_equal (m ∷ k ∷ ms) cells len n row are last =
-    let rest = more_equal (k ∷ ms) cells len n row are.3 last in
-    (ap (λ xs. replicate (k.first - m.first) (row_of m (k ∷ ms) cells) ++ xs) rest.0
-       ∙ sym (append_assoc (replicate (k.first - m.first) (row_of m (k ∷ ms) cells)) (ballots_of (k ∷ ms) cells len) (replicate n row)),
-     (are.0, are.1,
-      subst (BeginsOtherwise (row_of m (k ∷ ms) cells)) (sym rest.0) (begins_more _ _ (replicate n row) (some_ballots k ms cells len are.3) are.2),
-      rest.1))
+    let rest = more_equal (k ∷ ms) cells len n row are.3 last in (
+      ap (λ xs. replicate (k.first - m.first) (row_of m (k ∷ ms) cells) ++ xs) rest.0
+          ∙ sym (append_assoc (replicate (k.first - m.first) (row_of m (k ∷ ms) cells)) (ballots_of (k ∷ ms) cells len) (replicate n row)),
+      (
+        are.0,
+        are.1,
+        subst (BeginsOtherwise (row_of m (k ∷ ms) cells)) (sym rest.0) (begins_more _ _ (replicate n row) (some_ballots k ms cells len are.3) are.2),
+        rest.1,
+      ),
+    )
 
 front_kept : (cells row : List ℕ) (a b : ℕ) → b ≤ length cells → slice_range (cells ++ row) a b ≡ slice_range cells a b
 front_kept cells row a b within = grind (arith, common_steps)
@@ -155,26 +165,34 @@ begins_otherwise (suc n) row other rest some differ = differ
 -- a run more
 pub more_other : (marks : List Mark) (cells : List ℕ) (len n : ℕ) (row : List ℕ) → AreMarks marks cells len → 1 ≤ n → (last_row marks cells ≡ Some row → ⊥)
     → (ballots_of (marks ++ record { start = length cells; first = len } ∷ []) (cells ++ row) (len + n) ≡ ballots_of marks cells len ++ replicate n row)
-      × AreMarks (marks ++ record { start = length cells; first = len } ∷ []) (cells ++ row) (len + n)
+    × AreMarks (marks ++ record { start = length cells; first = len } ∷ []) (cells ++ row) (len + n)
 more_other [] cells len n row are some other =
     let count : (len + n) - len ≡ n = omega arith in
     (append-nil _ ∙ rw (end_new cells row, count) refl, (omega (arith, length-append cells row), omega (arith, some), tt, tt))
 more_other (m ∷ []) cells len n row are some other =
     let rest = more_other [] cells len n row tt some (λ e. absurd (cc)) in
     let same : slice_range (cells ++ row) m.start (length cells) ≡ row_of m [] cells = front_kept cells row m.start (length cells) (omega arith) in
-    let last : row_of m [] cells ≡ drop m.start cells = take_rest cells m.start in
-    (rw same (ap (λ xs. replicate (len - m.first) (row_of m [] cells) ++ xs) rest.0) ∙ ap (λ xs. xs ++ replicate n row) (sym (append-nil _)),
-     (are.0, are.1,
-      rw same (subst (BeginsOtherwise (row_of m [] cells)) (sym rest.0 ∙ refl) (subst (BeginsOtherwise (row_of m [] cells)) (append-nil _) (begins_otherwise n row (row_of m [] cells) [] some (λ e. other (ap Some (sym last ∙ sym e)))))),
-      rest.1))
+    let last : row_of m [] cells ≡ drop m.start cells = take_rest cells m.start in (
+      rw same (ap (λ xs. replicate (len - m.first) (row_of m [] cells) ++ xs) rest.0) ∙ ap (λ xs. xs ++ replicate n row) (sym (append-nil _)),
+      (
+        are.0,
+        are.1,
+        rw same (subst (BeginsOtherwise (row_of m [] cells)) (sym rest.0 ∙ refl) (subst (BeginsOtherwise (row_of m [] cells)) (append-nil _) (begins_otherwise n row (row_of m [] cells) [] some (λ e. other (ap Some (sym last ∙ sym e)))))),
+        rest.1,
+      ),
+    )
 more_other (m ∷ k ∷ ms) cells len n row are some other =
     let rest = more_other (k ∷ ms) cells len n row are.3 some other in
-    let same : slice_range (cells ++ row) m.start k.start ≡ row_of m (k ∷ ms) cells = front_kept cells row m.start k.start (start_le (k ∷ ms) cells len are.3) in
-    (rw same (ap (λ xs. replicate (k.first - m.first) (row_of m (k ∷ ms) cells) ++ xs) rest.0)
-       ∙ sym (append_assoc (replicate (k.first - m.first) (row_of m (k ∷ ms) cells)) (ballots_of (k ∷ ms) cells len) (replicate n row)),
-     (are.0, are.1,
-      rw same (subst (BeginsOtherwise (row_of m (k ∷ ms) cells)) (sym rest.0) (begins_more _ _ (replicate n row) (some_ballots k ms cells len are.3) are.2)),
-      rest.1))
+    let same : slice_range (cells ++ row) m.start k.start ≡ row_of m (k ∷ ms) cells = front_kept cells row m.start k.start (start_le (k ∷ ms) cells len are.3) in (
+      rw same (ap (λ xs. replicate (k.first - m.first) (row_of m (k ∷ ms) cells) ++ xs) rest.0)
+          ∙ sym (append_assoc (replicate (k.first - m.first) (row_of m (k ∷ ms) cells)) (ballots_of (k ∷ ms) cells len) (replicate n row)),
+      (
+        are.0,
+        are.1,
+        rw same (subst (BeginsOtherwise (row_of m (k ∷ ms) cells)) (sym rest.0) (begins_more _ _ (replicate n row) (some_ballots k ms cells len are.3) are.2)),
+        rest.1,
+      ),
+    )
 
 -- as many cells as places on valid ballots, at most
 pub cells_few : (c len : ℕ) (marks : List Mark) (cells : List ℕ) → c ≤ MOST_CANDIDATES → All (IsValidBallot c) (ballots_of marks cells len) → AreMarks marks cells len
@@ -184,9 +202,18 @@ cells_few c len (m ∷ ms) cells few valid are =
     let front = replicate (next_first ms len - m.first) (row_of m ms cells) in
     let rest = cells_few c len ms cells few (rest_valid c (next_first ms len - m.first) (row_of m ms cells) (ballots_of ms cells len) valid) are.3 in
     let here : IsValidBallot c (row_of m ms cells) = first_valid c (next_first ms len - m.first) (row_of m ms cells) (ballots_of ms cells len) (omega (arith, are.1)) valid in
-    omega (arith, rest, length_valid c (row_of m ms cells) here, are.0, are.1, start_le ms cells len are.3,
-      length-take (next_start ms (length cells) - m.start) (drop m.start cells), length-drop m.start cells,
-      length-append front (ballots_of ms cells len), length-replicate (next_first ms len - m.first) (row_of m ms cells))
+    omega (
+      arith,
+      rest,
+      length_valid c (row_of m ms cells) here,
+      are.0,
+      are.1,
+      start_le ms cells len are.3,
+      length-take (next_start ms (length cells) - m.start) (drop m.start cells),
+      length-drop m.start cells,
+      length-append front (ballots_of ms cells len),
+      length-replicate (next_first ms len - m.first) (row_of m ms cells),
+    )
   where
     first_valid : (c n : ℕ) (row : List ℕ) (rest : List (List ℕ)) → 1 ≤ n → All (IsValidBallot c) (replicate n row ++ rest) → IsValidBallot c row
     first_valid c zero row rest some valid = absurd (omega arith)

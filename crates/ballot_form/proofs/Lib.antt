@@ -5,3 +5,4 @@ pub mod Kept
 pub mod Lengths
 pub mod Places
 pub mod Polls
+pub mod RunSums

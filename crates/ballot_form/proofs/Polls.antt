@@ -43,7 +43,7 @@ poll_more c len n marks marks' cells cells' row kept valid few more are first = 
   most = kept.poll.most;
   few = omega (arith, length_ballots marks' cells' (len + n) are, first, few);
   valid = subst (All (IsValidBallot c)) (sym more)
-    (All-append (IsValidBallot c) (ballots_of marks cells len) (replicate n row) kept.poll.valid (All-replicate (IsValidBallot c) n row valid));
+      (All-append (IsValidBallot c) (ballots_of marks cells len) (replicate n row) kept.poll.valid (All-replicate (IsValidBallot c) n row valid));
 }
 
 -- no ballots more

@@ -31,7 +31,7 @@ BeginsOtherwise row ballots = IfSome (slice_get ballots 0) (λ ballot. ballot �
 abbrev pub AreMarks : List Mark → List ℕ → ℕ → Type 0
 AreMarks [] cells len = ⊤
 AreMarks (m ∷ ms) cells len = (m.start ≤ next_start ms (length cells)) × (m.first < next_first ms len)
-  × BeginsOtherwise (row_of m ms cells) (ballots_of ms cells len) × AreMarks ms cells len
+    × BeginsOtherwise (row_of m ms cells) (ballots_of ms cells len) × AreMarks ms cells len
 
 -- the ballot of the last run, if there is a run
 abbrev pub last_row : List Mark → List ℕ → Option (List ℕ)

@@ -53,6 +53,13 @@ impl Ranking {
         Ok(())
     }
 
+    /// Takes all candidates off, and keeps the memory.
+    pub fn clear(&mut self)
+        ensures { self.new ≡ [] }
+    {
+        self.items.clear();
+    }
+
     /// Lends the candidates, in order.
     pub fn as_slice(&self) -> &[Cand]
         ensures value { result.now ≡ self.now }

@@ -33,9 +33,9 @@ impl<'a> Model for Runs<'a> {
     ghost Value = { Left };
 
     ghost view = { λ r. record {
-        c = r.candidates;
-        first = next_first r.marks.now r.len + 1;
-        ballots = ballots_of r.marks.now r.cells.now r.len;
+      c = r.candidates;
+      first = next_first r.marks.now r.len + 1;
+      ballots = ballots_of r.marks.now r.cells.now r.len;
     } };
 
     ghost invariant = { λ r. IsPoll (record { c = r.candidates; ballots = ballots_of r.marks.now r.cells.now r.len })
@@ -53,9 +53,9 @@ impl<'a> Runs<'a> {
         requires marks { AreMarks marks.now cells.now len }
         requires few { len ≤ MOST_BALLOTS }
         ensures { result ≡ record {
-            c = candidates;
-            first = next_first marks.now len + 1;
-            ballots = ballots_of marks.now cells.now len;
+          c = candidates;
+          first = next_first marks.now len + 1;
+          ballots = ballots_of marks.now cells.now len;
         } }
     {
         Runs {
