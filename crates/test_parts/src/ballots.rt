@@ -39,6 +39,21 @@ fn a_roll_lends_its_ballots(rt: HostRuntime) -> Result<(), Fail> {
     Ok(())
 }
 
+#[test]
+fn runs_are_the_longest_ones(rt: HostRuntime) -> Result<(), Fail> {
+    let roll = roll_of(rt.alloc(), "2: 2 A, 3 A, 0 B, 2 B")?;
+    let mut given = roll.runs();
+    for (row, first, count) in [([0], 1, 5), ([1], 6, 2)] {
+        let Some(run) = given.next() else {
+            return Err("a run too few".into());
+        };
+        assert_eq!(rt; run.row, row.as_slice());
+        assert_eq!(rt; (run.first, run.count), (first, count));
+    }
+    assert!(rt; given.next().is_none());
+    Ok(())
+}
+
 /// Adds ballots for the only candidate, and says how that went and how many there are then.
 fn grown(alloc: Global, before: &str, count: u32) -> Result<(&'static str, u32), Fail> {
     let mut roll = roll_of(alloc, before)?;
