@@ -133,7 +133,7 @@ whole_times p g h = let z = mod-eq-zero_of_dvd p h in omega (arith, z, split p g
     split : (p g : ℕ) → g ≡ g / p * p + g % p
     split p g = omega arith
 
-scaled_entry : (p : ℕ) (row : List ℤ) (k : ℕ) → get_or (map (λ x. pos p *ℤ x) row) k (pos 0) ≡ pos p *ℤ get_or row k (pos 0)
+pub scaled_entry : (p : ℕ) (row : List ℤ) (k : ℕ) → get_or (map (λ x. pos p *ℤ x) row) k (pos 0) ≡ pos p *ℤ get_or row k (pos 0)
 scaled_entry p row k = subst (λ (z : ℤ). get_or (map (λ x. pos p *ℤ x) row) k z ≡ pos p *ℤ get_or row k (pos 0)) none (get_or-map (λ x. pos p *ℤ x) row k (pos 0))
   where
     none : pos p *ℤ pos 0 ≡ pos 0
@@ -172,7 +172,7 @@ scaled_back p (x ∷ row) h =
     let rest : map (λ y. int_div y (pos p)) (map (λ y. pos p *ℤ y) row) ≡ row = scaled_back p row h in
     cc
 
-scaled_primitive : (p : ℕ) (row : List ℤ) → 0 < p → IsPrimitive row → primitive (map (λ x. pos p *ℤ x) row) ≡ row
+pub scaled_primitive : (p : ℕ) (row : List ℤ) → 0 < p → IsPrimitive row → primitive (map (λ x. pos p *ℤ x) row) ≡ row
 scaled_primitive p row h lowest = ap (λ (g : ℕ). map (λ x. int_div x (pos g)) (map (λ x. pos p *ℤ x) row)) (scaled_gcd p row h lowest) ∙ scaled_back p row h
 
 -- ---- a row times a positive number is reduced to the same
@@ -205,7 +205,7 @@ primitive_scaled p row h = ⊎_elim none some (cases_lt 0 (row_gcd row))
         ∙ ap primitive (scaled_twice p g (primitive row))
         ∙ scaled_primitive (p * g) (primitive row) (product_positive p g h above) (primitive_lowest row above)
 
-positive_is : (p : ℤ) → pos 0 <ℤ p → p ≡ pos (unsigned_abs p)
+pub positive_is : (p : ℤ) → pos 0 <ℤ p → p ≡ pos (unsigned_abs p)
 positive_is p h = omega (arith, ints, h)
 
 pub eliminated_kept : (column : ℕ) (row lead : List ℤ) → length lead ≡ length row → pos 0 <ℤ get_or lead column (pos 0) → get_or row column (pos 0) ≡ pos 0 → IsPrimitive row → eliminated column row lead ≡ row

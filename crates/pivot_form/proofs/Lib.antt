@@ -3,3 +3,5 @@ pub mod Equations
 pub mod FirstForm
 pub mod Pivots
 pub mod NextForm
+pub mod Links
+pub mod Unique
