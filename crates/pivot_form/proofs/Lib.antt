@@ -5,3 +5,6 @@ pub mod Pivots
 pub mod NextForm
 pub mod Links
 pub mod Unique
+pub mod Whole
+pub mod Solutions
+pub mod Lowest

@@ -17,7 +17,7 @@ use Rattle.pivot_form.proofs.Equations.{positive_is, scaled_entry, scaled_primit
 use Rattle.pivot_form.proofs.NextForm.{IsShaped, make_same}
 
 -- the row of a basic variable, or none
-find_row : (m : ℕ) (basic : ℕ → ℕ) (u : ℕ) → ((k : ℕ) × (k < m) × (basic k ≡ u)) ⊎ ((k : ℕ) → k < m → basic k ≢ u)
+pub find_row : (m : ℕ) (basic : ℕ → ℕ) (u : ℕ) → ((k : ℕ) × (k < m) × (basic k ≡ u)) ⊎ ((k : ℕ) → k < m → basic k ≢ u)
 find_row zero basic u = inr (λ k h e. omega (arith, h))
 find_row (suc m) basic u =
     ⊎_elim

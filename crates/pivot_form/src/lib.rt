@@ -8,6 +8,7 @@
 
 mod first;
 mod form;
+mod places;
 mod rows;
 
 pub use form::{Form, Wide};

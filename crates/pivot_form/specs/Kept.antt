@@ -1,0 +1,121 @@
+-- Forms kept without what says nothing: the entries of basic variables, and the equations that follow from pairs.
+--
+-- Two variables are a pair where an equation says that they add up to a number. Such an equation is not kept. Where one of the
+-- two is nonbasic, it is the other's equation; where both are basic, one of them has an equation that is kept, and that of the
+-- other is the pair's, times the basic entry, less the one that is kept.
+use Rattle.std.specs.Prelude.{ℕ, ℤ, pos, ◌≡◌, ◌≢◌, ◌<◌, ◌≤◌, ◌+◌, ◌*◌, ◌+ℤ◌, ◌*ℤ◌, ◌-ℤ◌, ◌<ℤ◌, ◌==◌, if◌then◌else◌, List, length, map, slice_index, slice_index_or, slice_range, Option, Some, None}
+use Rattle.std.specs.List.{range_with_len}
+use Rattle.exact_num.specs.Divisors.{IsPrimitive}
+use Rattle.row_program.specs.Forms.{Table}
+use Rattle.pivot_form.specs.declared.places.Pair.{Pair}
+use Rattle.pivot_form.specs.declared.places.Place.{Place}
+use Rattle.pivot_form.specs.declared.places.Place.TheVariants.{Column, Kept, Paired}
+
+-- a form as it is kept: the basic variable of each equation, the place and the pair of each variable, and for each slot the
+-- entries of the columns, the basic entry and the right side
+pub record Store : Type 0 where
+  pub variables : ℕ
+  pub width : ℕ
+  pub slots : ℕ
+  pub basis : List ℕ
+  pub places : List Place
+  pub pairs : List (Option Pair)
+  pub cells : List ℤ
+
+abbrev pub place_of : Store → ℕ → Place
+place_of s v = slice_index_or s.places v Paired
+
+abbrev pub pair_of : Store → ℕ → Option Pair
+pair_of s v = slice_index_or s.pairs v None
+
+-- ---- what a slot keeps
+abbrev pub cell : Store → ℕ → ℕ → ℤ
+cell s k j = slice_index_or s.cells (k * (s.width + 2) + j) (pos 0)
+
+abbrev pub own : Store → ℕ → ℤ
+own s k = cell s k s.width
+
+abbrev pub kept_right : Store → ℕ → ℤ
+kept_right s k = cell s k (s.width + 1)
+
+abbrev pub short_row : Store → ℕ → List ℤ
+short_row s k = slice_range s.cells (k * (s.width + 2)) (k * (s.width + 2) + (s.width + 2))
+
+abbrev pub entry_at : Store → ℕ → Place → ℤ
+entry_at s k (Column j) = cell s k j
+entry_at s k (Kept l) = if l == k then own s k else pos 0
+entry_at s k Paired = pos 0
+
+-- the entry of the variable v in the equation that the slot k keeps
+abbrev pub kept_entry : Store → ℕ → ℕ → ℤ
+kept_entry s k v = entry_at s k (place_of s v)
+
+-- ---- the equation of a basic variable
+-- that of a pair
+abbrev pub pair_entry : ℕ → ℕ → ℕ → ℤ
+pair_entry a b v = (if v == a then pos 1 else pos 0) +ℤ (if v == b then pos 1 else pos 0)
+
+abbrev pub entry_beside : Store → ℕ → Pair → Place → ℕ → ℤ
+entry_beside s b pair (Column j) v = pair_entry b pair.other v
+entry_beside s b pair (Kept k) v = own s k *ℤ pair_entry b pair.other v -ℤ kept_entry s k v
+entry_beside s b pair Paired v = pos 0
+
+abbrev pub entry_paired : Store → ℕ → Option Pair → ℕ → ℤ
+entry_paired s b None v = pos 0
+entry_paired s b (Some pair) v = entry_beside s b pair (place_of s pair.other) v
+
+abbrev pub entry_by : Store → ℕ → Place → ℕ → ℤ
+entry_by s b (Column j) v = pos 0
+entry_by s b (Kept k) v = kept_entry s k v
+entry_by s b Paired v = entry_paired s b (pair_of s b) v
+
+abbrev pub entry_of : Store → ℕ → ℕ → ℤ
+entry_of s b v = entry_by s b (place_of s b) v
+
+abbrev pub right_beside : Store → Pair → Place → ℤ
+right_beside s pair (Column j) = pair.sum
+right_beside s pair (Kept k) = own s k *ℤ pair.sum -ℤ kept_right s k
+right_beside s pair Paired = pos 0
+
+abbrev pub right_paired : Store → Option Pair → ℤ
+right_paired s None = pos 0
+right_paired s (Some pair) = right_beside s pair (place_of s pair.other)
+
+abbrev pub right_by : Store → ℕ → Place → ℤ
+right_by s b (Column j) = pos 0
+right_by s b (Kept k) = kept_right s k
+right_by s b Paired = right_paired s (pair_of s b)
+
+abbrev pub right_of : Store → ℕ → ℤ
+right_of s b = right_by s b (place_of s b)
+
+-- ---- the form
+abbrev pub row_entry : Store → ℕ → ℕ → ℤ
+row_entry s b v = if v == s.variables then right_of s b else entry_of s b v
+
+abbrev pub whole_row : Store → ℕ → List ℤ
+whole_row s b = map (row_entry s b) (range_with_len 0 (s.variables + 1))
+
+abbrev pub table_of : Store → Table
+table_of s = record { variables = s.variables; rows = map (whole_row s) s.basis; basis = s.basis }
+
+-- ---- what always holds of what is kept, whatever the size of the entries
+pub record IsStore (s : Store) : Type 0 where
+  pub all_places : length s.places ≡ s.variables
+  pub all_cells : length s.cells ≡ s.slots * (s.width + 2)
+  pub basics : (i : ℕ) → i < length s.basis → slice_index s.basis i < s.variables
+  pub one_basic : (i k : ℕ) → i < length s.basis → k < length s.basis → i ≢ k → slice_index s.basis i ≢ slice_index s.basis k
+  pub basic_place : (i j : ℕ) → i < length s.basis → place_of s (slice_index s.basis i) ≢ Column j
+  pub other_place : (v : ℕ) → v < s.variables → ((i : ℕ) → i < length s.basis → slice_index s.basis i ≢ v) → (j : ℕ) × (place_of s v ≡ Column j)
+  pub columns : (v j : ℕ) → v < s.variables → place_of s v ≡ Column j → j < s.width
+  pub one_column : (v w j : ℕ) → v < s.variables → w < s.variables → place_of s v ≡ Column j → place_of s w ≡ Column j → v ≡ w
+  pub all_columns : (j : ℕ) → j < s.width → (v : ℕ) × (v < s.variables) × (place_of s v ≡ Column j)
+  pub kept : (v k : ℕ) → v < s.variables → place_of s v ≡ Kept k → k < s.slots
+  pub one_kept : (v w k : ℕ) → v < s.variables → w < s.variables → place_of s v ≡ Kept k → place_of s w ≡ Kept k → v ≡ w
+  pub all_kept : (k : ℕ) → k < s.slots → (i : ℕ) × (i < length s.basis) × (place_of s (slice_index s.basis i) ≡ Kept k)
+  pub pairs : (v : ℕ) (p : Pair) → v < s.variables → pair_of s v ≡ Some p
+      → (p.other < s.variables) × (p.other ≢ v) × (pair_of s p.other ≡ Some (record { other = v; sum = p.sum }))
+  pub paired : (v : ℕ) → v < s.variables → place_of s v ≡ Paired → (p : Pair) × (pair_of s v ≡ Some p) × (place_of s p.other ≢ Paired)
+  pub one_paired : (v : ℕ) (p : Pair) → v < s.variables → pair_of s v ≡ Some p → place_of s v ≢ Paired → place_of s p.other ≡ Paired
+  pub positive : (k : ℕ) → k < s.slots → pos 0 <ℤ own s k
+  pub primitive : (k : ℕ) → k < s.slots → IsPrimitive (short_row s k)
