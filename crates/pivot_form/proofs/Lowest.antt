@@ -15,7 +15,7 @@ use Rattle.row_program.specs.Forms.{IsReduced, row_of}
 use Rattle.pivot_form.specs.declared.places.Pair.{Pair}
 use Rattle.pivot_form.specs.declared.places.Place.{Place}
 use Rattle.pivot_form.specs.declared.places.Place.TheVariants.{Column, Kept, Paired}
-use Rattle.pivot_form.specs.Kept.{Store, IsStore, cell, own, kept_right, short_row, kept_entry, entry_at, place_of, pair_entry, entry_of, right_of, row_entry, whole_row, table_of}
+use Rattle.pivot_form.specs.Kept.{Store, IsStore, variables_of, cell, own, kept_right, short_row, kept_entry, entry_at, place_of, pair_entry, entry_of, right_of, row_entry, whole_row, table_of}
 use Rattle.pivot_form.proofs.Whole.{IsKeptRow, IsMirrorRow, IsPairRow, cell_at, height, kept_own, pair_first, pair_none, row_at, row_entry_inside, row_entry_last, row_kind, width_at}
 use Rattle.pivot_form.proofs.NextForm.{IsShaped}
 use Rattle.pivot_form.proofs.Whole.{store_solved}
@@ -35,26 +35,17 @@ rest_divides d p a b whole part =
     let h : (P *ℤ a -ℤ W) *ℤ pos d ≡ (P *ℤ a) *ℤ pos d -ℤ W *ℤ pos d = same (times (minus (times (leaf P) (leaf a)) (leaf W)) (leaf (pos d))) (minus (times (times (leaf P) (leaf a)) (leaf (pos d))) (times (leaf W) (leaf (pos d)))) (omega arith) in
     times_divides d (P *ℤ a -ℤ W) b (omega (arith, ints, e, g, h))
 
--- ---- the cells of a slot
-pub short_at : (s : Store) (k q : ℕ) → q < s.width + 2 → get_or (short_row s k) q (pos 0) ≡ cell s k q
-short_at s k q l =
-    let from = k * (s.width + 2) in
-    get_or-take (from + (s.width + 2) - from) (drop from s.cells) q (pos 0) (omega (arith, l)) ∙ get_or-drop from s.cells q (pos 0)
-
-pub short_within : (s : Store) (k : ℕ) → length (short_row s k) ≤ s.width + 2
-short_within s k = let from = k * (s.width + 2) in omega (arith, length-take (from + (s.width + 2) - from) (drop from s.cells))
-
 -- ---- each equation
-at_inside : (s : Store) (d b v : ℕ) → All (λ x. d ∣ unsigned_abs x) (whole_row s b) → v < s.variables → d ∣ unsigned_abs (entry_of s b v)
+at_inside : (s : Store) (d b v : ℕ) → All (λ x. d ∣ unsigned_abs x) (whole_row s b) → v < variables_of s → d ∣ unsigned_abs (entry_of s b v)
 at_inside s d b v all l = subst (λ (x : ℤ). d ∣ unsigned_abs x) (cell_at s b v (omega (arith, l)) ∙ row_entry_inside s b v l) (all v (pos 0) (omega (arith, l, width_at s b)))
 
 at_last : (s : Store) (d b : ℕ) → All (λ x. d ∣ unsigned_abs x) (whole_row s b) → d ∣ unsigned_abs (right_of s b)
-at_last s d b all = subst (λ (x : ℤ). d ∣ unsigned_abs x) (cell_at s b s.variables (omega arith) ∙ row_entry_last s b) (all s.variables (pos 0) (omega (arith, width_at s b)))
+at_last s d b all = subst (λ (x : ℤ). d ∣ unsigned_abs x) (cell_at s b (variables_of s) (omega arith) ∙ row_entry_last s b) (all (variables_of s) (pos 0) (omega (arith, width_at s b)))
 
 -- what divides each cell of a slot is 1
-all_cells_one : (s : Store) (d k : ℕ) → IsStore s → k < s.slots → ((j : ℕ) → j < s.width → d ∣ unsigned_abs (cell s k j)) → d ∣ unsigned_abs (own s k) → d ∣ unsigned_abs (kept_right s k) → d ≡ 1
+all_cells_one : (s : Store) (d k : ℕ) → IsStore s → k < length s.rows → ((j : ℕ) → j < s.width → d ∣ unsigned_abs (cell s k j)) → d ∣ unsigned_abs (own s k) → d ∣ unsigned_abs (kept_right s k) → d ≡ 1
 all_cells_one s d k is l columns mine last =
-    is.primitive k l d (λ q e h. subst (λ (x : ℤ). d ∣ unsigned_abs x) (sym (at_default q e h ∙ short_at s k q (omega (arith, h, short_within s k)))) (by q (omega (arith, h, short_within s k))))
+    is.primitive k l d (λ q e h. subst (λ (x : ℤ). d ∣ unsigned_abs x) (sym (at_default q e h)) (by q (omega (arith, h, is.widths k l))))
   where
     at_default : (q : ℕ) (e : ℤ) → q < length (short_row s k) → get_or (short_row s k) q e ≡ get_or (short_row s k) q (pos 0)
     at_default q e h = get_or_default (short_row s k) q e (pos 0) h
@@ -69,7 +60,7 @@ all_cells_one s d k is l columns mine last =
           (cases_eq q s.width))
         (cases_lt q s.width)
 
-pub row_lowest : (s : Store) (b : ℕ) → IsStore s → b < s.variables → ((j : ℕ) → place_of s b ≢ Column j) → IsPrimitive (whole_row s b)
+pub row_lowest : (s : Store) (b : ℕ) → IsStore s → b < variables_of s → ((j : ℕ) → place_of s b ≢ Column j) → IsPrimitive (whole_row s b)
 row_lowest s b is l no_column d all =
     row_kind s b is l no_column
     (λ k row. all_cells_one s d k is (is.kept b k l row.place)
@@ -100,7 +91,7 @@ low s i h = omega (arith, h, height s)
 pub store_reduced : (s : Store) → IsStore s → IsReduced (table_of s)
 store_reduced s is i e h =
     let l = low s i h in
-    subst (λ (row : List ℤ). (length row ≡ s.variables + 1) × IsPrimitive row)
+    subst (λ (row : List ℤ). (length row ≡ variables_of s + 1) × IsPrimitive row)
     (sym (get_or_default (table_of s).rows i e [] h ∙ row_at s i l))
     (width_at s (get_or s.basis i 0), row_lowest s (get_or s.basis i 0) is (is.basics i l) (λ j. is.basic_place i j l))
 

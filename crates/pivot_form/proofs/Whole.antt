@@ -12,7 +12,7 @@ use Rattle.row_program.specs.Forms.{tableau, row_of, entry, right_side, IsSolved
 use Rattle.pivot_form.specs.declared.places.Pair.{Pair}
 use Rattle.pivot_form.specs.declared.places.Place.{Place}
 use Rattle.pivot_form.specs.declared.places.Place.TheVariants.{Column, Kept, Paired}
-use Rattle.pivot_form.specs.Kept.{Store, IsStore, place_of, pair_of, own, kept_right, entry_at, kept_entry, pair_entry, entry_beside, entry_paired, entry_by, entry_of, right_beside, right_paired, right_by, right_of, row_entry, whole_row, table_of}
+use Rattle.pivot_form.specs.Kept.{Store, IsStore, variables_of, place_of, pair_of, own, kept_right, entry_at, kept_entry, pair_entry, entry_beside, entry_paired, entry_by, entry_of, right_beside, right_paired, right_by, right_of, row_entry, whole_row, table_of}
 
 -- ---- rows
 pub height : (s : Store) → length (table_of s).rows ≡ length s.basis
@@ -26,23 +26,23 @@ row_at s i l = get_or-map-of (whole_row s) s.basis i l
     get_or-map-of f (x ∷ xs) zero l = refl
     get_or-map-of f (x ∷ xs) (suc i) l = get_or-map-of f xs i (omega (arith, l))
 
-pub width_at : (s : Store) (b : ℕ) → length (whole_row s b) ≡ s.variables + 1
-width_at s b = length-map-range_with_len (row_entry s b) 0 (s.variables + 1)
+pub width_at : (s : Store) (b : ℕ) → length (whole_row s b) ≡ variables_of s + 1
+width_at s b = length-map-range_with_len (row_entry s b) 0 (variables_of s + 1)
 
-pub cell_at : (s : Store) (b v : ℕ) → v < s.variables + 1 → get_or (whole_row s b) v (pos 0) ≡ row_entry s b v
-cell_at s b v l = get_or-map-range_with_len (row_entry s b) 0 (s.variables + 1) v v (pos 0) l (omega arith)
+pub cell_at : (s : Store) (b v : ℕ) → v < variables_of s + 1 → get_or (whole_row s b) v (pos 0) ≡ row_entry s b v
+cell_at s b v l = get_or-map-range_with_len (row_entry s b) 0 (variables_of s + 1) v v (pos 0) l (omega arith)
 
-pub row_entry_inside : (s : Store) (b v : ℕ) → v < s.variables → row_entry s b v ≡ entry_of s b v
-row_entry_inside s b v l = let apart : v ≢ s.variables = λ e. omega (arith, l, e) in grind (arith, nat_tests)
+pub row_entry_inside : (s : Store) (b v : ℕ) → v < variables_of s → row_entry s b v ≡ entry_of s b v
+row_entry_inside s b v l = let apart : v ≢ variables_of s = λ e. omega (arith, l, e) in grind (arith, nat_tests)
 
-pub row_entry_last : (s : Store) (b : ℕ) → row_entry s b s.variables ≡ right_of s b
+pub row_entry_last : (s : Store) (b : ℕ) → row_entry s b (variables_of s) ≡ right_of s b
 row_entry_last s b = grind (arith, nat_tests)
 
-pub entry_is : (s : Store) (i v : ℕ) → i < length s.basis → v < s.variables → entry (table_of s) i v ≡ entry_of s (get_or s.basis i 0) v
+pub entry_is : (s : Store) (i v : ℕ) → i < length s.basis → v < variables_of s → entry (table_of s) i v ≡ entry_of s (get_or s.basis i 0) v
 entry_is s i v l m = ap (λ (row : List ℤ). get_or row v (pos 0)) (row_at s i l) ∙ cell_at s (get_or s.basis i 0) v (omega (arith, m)) ∙ row_entry_inside s (get_or s.basis i 0) v m
 
 pub right_is : (s : Store) (i : ℕ) → i < length s.basis → right_side (table_of s) i ≡ right_of s (get_or s.basis i 0)
-right_is s i l = ap (λ (row : List ℤ). get_or row s.variables (pos 0)) (row_at s i l) ∙ cell_at s (get_or s.basis i 0) s.variables (omega arith) ∙ row_entry_last s (get_or s.basis i 0)
+right_is s i l = ap (λ (row : List ℤ). get_or row (variables_of s) (pos 0)) (row_at s i l) ∙ cell_at s (get_or s.basis i 0) (variables_of s) (omega arith) ∙ row_entry_last s (get_or s.basis i 0)
 
 -- ---- entries
 pub pair_first : (a b v : ℕ) → v ≡ a → v ≢ b → pair_entry a b v ≡ pos 1
@@ -64,7 +64,7 @@ pub kept_own : (s : Store) (k v : ℕ) → place_of s v ≡ Kept k → kept_entr
 kept_own s k v e = ap (entry_at s k) e ∙ entry_same s k k refl
 
 -- the entry of another variable that has no column
-pub kept_none : (s : Store) (k v w : ℕ) → IsStore s → v < s.variables → w < s.variables → place_of s v ≡ Kept k → w ≢ v → ((j : ℕ) → place_of s w ≢ Column j) → kept_entry s k w ≡ pos 0
+pub kept_none : (s : Store) (k v w : ℕ) → IsStore s → v < variables_of s → w < variables_of s → place_of s v ≡ Kept k → w ≢ v → ((j : ℕ) → place_of s w ≢ Column j) → kept_entry s k w ≡ pos 0
 kept_none s k v w is l m e apart no_column = by (place_of s w) refl
   where
     by : (p : Place) → place_of s w ≡ p → kept_entry s k w ≡ pos 0
@@ -97,7 +97,7 @@ pub record IsMirrorRow (s : Store) (b : ℕ) (p : Pair) (k : ℕ) : Type 0 where
   pub right : right_of s b ≡ own s k *ℤ p.sum -ℤ kept_right s k
 
 -- each basic variable has an equation of one of the three kinds
-pub row_kind : {P : Type 0} (s : Store) (b : ℕ) → IsStore s → b < s.variables → ((j : ℕ) → place_of s b ≢ Column j)
+pub row_kind : {P : Type 0} (s : Store) (b : ℕ) → IsStore s → b < variables_of s → ((j : ℕ) → place_of s b ≢ Column j)
     → ((k : ℕ) → IsKeptRow s b k → P) → ((p : Pair) (j : ℕ) → IsPairRow s b p j → P) → ((p : Pair) (k : ℕ) → IsMirrorRow s b p k → P) → P
 row_kind {P} s b is l no_column at_kept at_pair at_mirror = by (place_of s b) refl
   where
@@ -126,7 +126,7 @@ row_kind {P} s b is l no_column at_kept at_pair at_mirror = by (place_of s b) re
         by_other found.0 e found.1 (place_of s found.0.other) refl found.2
 
 -- ---- each equation is solved for its basic variable
-own_positive : (s : Store) (b : ℕ) → IsStore s → b < s.variables → ((j : ℕ) → place_of s b ≢ Column j) → pos 0 <ℤ entry_of s b b
+own_positive : (s : Store) (b : ℕ) → IsStore s → b < variables_of s → ((j : ℕ) → place_of s b ≢ Column j) → pos 0 <ℤ entry_of s b b
 own_positive s b is l no_column =
     row_kind s b is l no_column
     (λ k row. subst (λ (x : ℤ). pos 0 <ℤ x) (sym (row.entries b ∙ kept_own s k b row.place)) (is.positive k (is.kept b k l row.place)))
@@ -138,7 +138,7 @@ own_positive s b is l no_column =
       let above = is.positive k (is.kept p.other k good.0 row.other) in
       omega (arith, ints, all, above))
 
-other_clear : (s : Store) (b v : ℕ) → IsStore s → b < s.variables → v < s.variables → v ≢ b → ((j : ℕ) → place_of s b ≢ Column j) → ((j : ℕ) → place_of s v ≢ Column j) → entry_of s b v ≡ pos 0
+other_clear : (s : Store) (b v : ℕ) → IsStore s → b < variables_of s → v < variables_of s → v ≢ b → ((j : ℕ) → place_of s b ≢ Column j) → ((j : ℕ) → place_of s v ≢ Column j) → entry_of s b v ≡ pos 0
 other_clear s b v is l m apart no_column away =
     row_kind s b is l no_column
     (λ k row. row.entries v ∙ kept_none s k b v is l m row.place apart away)

@@ -3,7 +3,7 @@
 -- Two variables are a pair where an equation says that they add up to a number. Such an equation is not kept. Where one of the
 -- two is nonbasic, it is the other's equation; where both are basic, one of them has an equation that is kept, and that of the
 -- other is the pair's, times the basic entry, less the one that is kept.
-use Rattle.std.specs.Prelude.{ℕ, ℤ, pos, ◌≡◌, ◌≢◌, ◌<◌, ◌≤◌, ◌+◌, ◌*◌, ◌+ℤ◌, ◌*ℤ◌, ◌-ℤ◌, ◌<ℤ◌, ◌==◌, if◌then◌else◌, List, length, map, slice_index, slice_index_or, slice_range, Option, Some, None}
+use Rattle.std.specs.Prelude.{ℕ, ℤ, pos, ◌≡◌, ◌≢◌, ◌<◌, ◌≤◌, ◌+◌, ◌*◌, ◌+ℤ◌, ◌*ℤ◌, ◌-ℤ◌, ◌<ℤ◌, ◌==◌, if◌then◌else◌, List, [], length, map, slice_index, slice_index_or, Option, Some, None}
 use Rattle.std.specs.List.{range_with_len}
 use Rattle.exact_num.specs.Divisors.{IsPrimitive}
 use Rattle.row_program.specs.Forms.{Table}
@@ -11,16 +11,17 @@ use Rattle.pivot_form.specs.declared.places.Pair.{Pair}
 use Rattle.pivot_form.specs.declared.places.Place.{Place}
 use Rattle.pivot_form.specs.declared.places.Place.TheVariants.{Column, Kept, Paired}
 
--- a form as it is kept: the basic variable of each equation, the place and the pair of each variable, and for each slot the
--- entries of the columns, the basic entry and the right side
+-- a form as it is kept: the number of columns, the basic variable of each equation, the place and the pair of each variable,
+-- and for each slot the entries of the columns, the basic entry and the right side
 pub record Store : Type 0 where
-  pub variables : ℕ
   pub width : ℕ
-  pub slots : ℕ
   pub basis : List ℕ
   pub places : List Place
   pub pairs : List (Option Pair)
-  pub cells : List ℤ
+  pub rows : List (List ℤ)
+
+abbrev pub variables_of : Store → ℕ
+variables_of s = length s.places
 
 abbrev pub place_of : Store → ℕ → Place
 place_of s v = slice_index_or s.places v Paired
@@ -29,17 +30,17 @@ abbrev pub pair_of : Store → ℕ → Option Pair
 pair_of s v = slice_index_or s.pairs v None
 
 -- ---- what a slot keeps
+abbrev pub short_row : Store → ℕ → List ℤ
+short_row s k = slice_index_or s.rows k []
+
 abbrev pub cell : Store → ℕ → ℕ → ℤ
-cell s k j = slice_index_or s.cells (k * (s.width + 2) + j) (pos 0)
+cell s k j = slice_index_or (short_row s k) j (pos 0)
 
 abbrev pub own : Store → ℕ → ℤ
 own s k = cell s k s.width
 
 abbrev pub kept_right : Store → ℕ → ℤ
 kept_right s k = cell s k (s.width + 1)
-
-abbrev pub short_row : Store → ℕ → List ℤ
-short_row s k = slice_range s.cells (k * (s.width + 2)) (k * (s.width + 2) + (s.width + 2))
 
 abbrev pub entry_at : Store → ℕ → Place → ℤ
 entry_at s k (Column j) = cell s k j
@@ -91,31 +92,30 @@ right_of s b = right_by s b (place_of s b)
 
 -- ---- the form
 abbrev pub row_entry : Store → ℕ → ℕ → ℤ
-row_entry s b v = if v == s.variables then right_of s b else entry_of s b v
+row_entry s b v = if v == variables_of s then right_of s b else entry_of s b v
 
 abbrev pub whole_row : Store → ℕ → List ℤ
-whole_row s b = map (row_entry s b) (range_with_len 0 (s.variables + 1))
+whole_row s b = map (row_entry s b) (range_with_len 0 (variables_of s + 1))
 
 abbrev pub table_of : Store → Table
-table_of s = record { variables = s.variables; rows = map (whole_row s) s.basis; basis = s.basis }
+table_of s = record { variables = variables_of s; rows = map (whole_row s) s.basis; basis = s.basis }
 
 -- ---- what always holds of what is kept, whatever the size of the entries
 pub record IsStore (s : Store) : Type 0 where
-  pub all_places : length s.places ≡ s.variables
-  pub all_cells : length s.cells ≡ s.slots * (s.width + 2)
-  pub basics : (i : ℕ) → i < length s.basis → slice_index s.basis i < s.variables
+  pub widths : (k : ℕ) → k < length s.rows → length (short_row s k) ≡ s.width + 2
+  pub basics : (i : ℕ) → i < length s.basis → slice_index s.basis i < variables_of s
   pub one_basic : (i k : ℕ) → i < length s.basis → k < length s.basis → i ≢ k → slice_index s.basis i ≢ slice_index s.basis k
   pub basic_place : (i j : ℕ) → i < length s.basis → place_of s (slice_index s.basis i) ≢ Column j
-  pub other_place : (v : ℕ) → v < s.variables → ((i : ℕ) → i < length s.basis → slice_index s.basis i ≢ v) → (j : ℕ) × (place_of s v ≡ Column j)
-  pub columns : (v j : ℕ) → v < s.variables → place_of s v ≡ Column j → j < s.width
-  pub one_column : (v w j : ℕ) → v < s.variables → w < s.variables → place_of s v ≡ Column j → place_of s w ≡ Column j → v ≡ w
-  pub all_columns : (j : ℕ) → j < s.width → (v : ℕ) × (v < s.variables) × (place_of s v ≡ Column j)
-  pub kept : (v k : ℕ) → v < s.variables → place_of s v ≡ Kept k → k < s.slots
-  pub one_kept : (v w k : ℕ) → v < s.variables → w < s.variables → place_of s v ≡ Kept k → place_of s w ≡ Kept k → v ≡ w
-  pub all_kept : (k : ℕ) → k < s.slots → (i : ℕ) × (i < length s.basis) × (place_of s (slice_index s.basis i) ≡ Kept k)
-  pub pairs : (v : ℕ) (p : Pair) → v < s.variables → pair_of s v ≡ Some p
-      → (p.other < s.variables) × (p.other ≢ v) × (pair_of s p.other ≡ Some (record { other = v; sum = p.sum }))
-  pub paired : (v : ℕ) → v < s.variables → place_of s v ≡ Paired → (p : Pair) × (pair_of s v ≡ Some p) × (place_of s p.other ≢ Paired)
-  pub one_paired : (v : ℕ) (p : Pair) → v < s.variables → pair_of s v ≡ Some p → place_of s v ≢ Paired → place_of s p.other ≡ Paired
-  pub positive : (k : ℕ) → k < s.slots → pos 0 <ℤ own s k
-  pub primitive : (k : ℕ) → k < s.slots → IsPrimitive (short_row s k)
+  pub other_place : (v : ℕ) → v < variables_of s → ((i : ℕ) → i < length s.basis → slice_index s.basis i ≢ v) → (j : ℕ) × (place_of s v ≡ Column j)
+  pub columns : (v j : ℕ) → v < variables_of s → place_of s v ≡ Column j → j < s.width
+  pub one_column : (v w j : ℕ) → v < variables_of s → w < variables_of s → place_of s v ≡ Column j → place_of s w ≡ Column j → v ≡ w
+  pub all_columns : (j : ℕ) → j < s.width → (v : ℕ) × (v < variables_of s) × (place_of s v ≡ Column j)
+  pub kept : (v k : ℕ) → v < variables_of s → place_of s v ≡ Kept k → k < length s.rows
+  pub one_kept : (v w k : ℕ) → v < variables_of s → w < variables_of s → place_of s v ≡ Kept k → place_of s w ≡ Kept k → v ≡ w
+  pub all_kept : (k : ℕ) → k < length s.rows → (i : ℕ) × (i < length s.basis) × (place_of s (slice_index s.basis i) ≡ Kept k)
+  pub pairs : (v : ℕ) (p : Pair) → v < variables_of s → pair_of s v ≡ Some p
+      → (p.other < variables_of s) × (p.other ≢ v) × (pair_of s p.other ≡ Some (record { other = v; sum = p.sum }))
+  pub paired : (v : ℕ) → v < variables_of s → place_of s v ≡ Paired → (p : Pair) × (pair_of s v ≡ Some p) × (place_of s p.other ≢ Paired)
+  pub one_paired : (v : ℕ) (p : Pair) → v < variables_of s → pair_of s v ≡ Some p → place_of s v ≢ Paired → place_of s p.other ≡ Paired
+  pub positive : (k : ℕ) → k < length s.rows → pos 0 <ℤ own s k
+  pub primitive : (k : ℕ) → k < length s.rows → IsPrimitive (short_row s k)
