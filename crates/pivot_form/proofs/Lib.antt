@@ -8,3 +8,4 @@ pub mod Unique
 pub mod Whole
 pub mod Solutions
 pub mod Lowest
+pub mod Swaps
