@@ -9,3 +9,4 @@ pub mod Whole
 pub mod Solutions
 pub mod Lowest
 pub mod Swaps
+pub mod Exchange

@@ -23,7 +23,7 @@ pub record HoldsKept (s : Store) (y : ℕ → ℤ) (d : ℤ) : Type 0 where
   pub pairs : (v : ℕ) (p : Pair) → v < variables_of s → pair_of s v ≡ Some p → y v +ℤ y p.other ≡ p.sum *ℤ d
 
 -- the equation of a basic variable
-abbrev HoldsOf : Store → (ℕ → ℤ) → ℤ → ℕ → Type 0
+abbrev pub HoldsOf : Store → (ℕ → ℤ) → ℤ → ℕ → Type 0
 HoldsOf s y d b = sum_from (variables_of s) 0 (λ v. entry_of s b v *ℤ y v) ≡ right_of s b *ℤ d
 
 pub row_holds : (s : Store) (y : ℕ → ℤ) (d : ℤ) (i : ℕ) → i < length s.basis → Holds (tableau (table_of s)) y d → HoldsOf s y d (get_or s.basis i 0)

@@ -138,7 +138,7 @@ own_positive s b is l no_column =
       let above = is.positive k (is.kept p.other k good.0 row.other) in
       omega (arith, ints, all, above))
 
-other_clear : (s : Store) (b v : ℕ) → IsStore s → b < variables_of s → v < variables_of s → v ≢ b → ((j : ℕ) → place_of s b ≢ Column j) → ((j : ℕ) → place_of s v ≢ Column j) → entry_of s b v ≡ pos 0
+pub other_clear : (s : Store) (b v : ℕ) → IsStore s → b < variables_of s → v < variables_of s → v ≢ b → ((j : ℕ) → place_of s b ≢ Column j) → ((j : ℕ) → place_of s v ≢ Column j) → entry_of s b v ≡ pos 0
 other_clear s b v is l m apart no_column away =
     row_kind s b is l no_column
     (λ k row. row.entries v ∙ kept_none s k b v is l m row.place apart away)

@@ -3,10 +3,10 @@
 -- Two variables are a pair where an equation says that they add up to a number. Such an equation is not kept. Where one of the
 -- two is nonbasic, it is the other's equation; where both are basic, one of them has an equation that is kept, and that of the
 -- other is the pair's, times the basic entry, less the one that is kept.
-use Rattle.std.specs.Prelude.{ℕ, ℤ, pos, ◌≡◌, ◌≢◌, ◌<◌, ◌≤◌, ◌+◌, ◌*◌, ◌+ℤ◌, ◌*ℤ◌, ◌-ℤ◌, ◌<ℤ◌, ◌==◌, if◌then◌else◌, List, [], length, map, slice_index, slice_index_or, Option, Some, None}
+use Rattle.std.specs.Prelude.{ℕ, ℤ, pos, ◌≡◌, ◌≢◌, ◌<◌, ◌≤◌, ◌+◌, ◌*◌, ◌+ℤ◌, ◌*ℤ◌, ◌-ℤ◌, ◌<ℤ◌, ◌==◌, if◌then◌else◌, List, [], length, map, slice_index, slice_index_or, slice_set, Bool, false, Option, Some, None}
 use Rattle.std.specs.List.{range_with_len}
-use Rattle.exact_num.specs.Divisors.{IsPrimitive}
-use Rattle.row_program.specs.Forms.{Table}
+use Rattle.exact_num.specs.Divisors.{IsPrimitive, primitive}
+use Rattle.row_program.specs.Forms.{Table, combination, map_from}
 use Rattle.pivot_form.specs.declared.places.Pair.{Pair}
 use Rattle.pivot_form.specs.declared.places.Place.{Place}
 use Rattle.pivot_form.specs.declared.places.Place.TheVariants.{Column, Kept, Paired}
@@ -119,3 +119,34 @@ pub record IsStore (s : Store) : Type 0 where
   pub one_paired : (v : ℕ) (p : Pair) → v < variables_of s → pair_of s v ≡ Some p → place_of s v ≢ Paired → place_of s p.other ≡ Paired
   pub positive : (k : ℕ) → k < length s.rows → pos 0 <ℤ own s k
   pub primitive : (k : ℕ) → k < length s.rows → IsPrimitive (short_row s k)
+
+-- ---- a pivot of what is kept, where the lead is an equation's columns, basic entry and right side
+-- the lead where the leaving variable has the column of the entering one, whose own entry is left out
+abbrev pub moved : ℕ → ℕ → List ℤ → List ℤ
+moved width j lead = slice_set (slice_set lead j (slice_index_or lead width (pos 0))) width (pos 0)
+
+-- a slot's row, cleared of the entering variable
+abbrev pub cleared : ℕ → ℕ → List ℤ → List ℤ → List ℤ
+cleared width j lead row =
+    primitive (combination (slice_index_or lead j (pos 0)) (slice_set row j (pos 0)) (slice_index_or row j (pos 0)) (moved width j lead))
+
+-- what the entering variable's own slot keeps
+abbrev pub taken : ℕ → ℕ → List ℤ → List ℤ
+taken width j lead = slice_set (moved width j lead) width (slice_index_or lead j (pos 0))
+
+abbrev pub is_slot : Option ℕ → ℕ → Bool
+is_slot None k = false
+is_slot (Some l) k = l == k
+
+abbrev pub next_short : ℕ → ℕ → List ℤ → Option ℕ → ℕ → List ℤ → List ℤ
+next_short width j lead slot k row = if is_slot slot k then taken width j lead else cleared width j lead row
+
+-- the form after the variable e, in the column j, took the place of the basic variable b of the equation r
+abbrev pub exchanged : Store → ℕ → ℕ → ℕ → ℕ → List ℤ → Option ℕ → Store
+exchanged s r b e j lead slot = record {
+  width = s.width;
+  basis = slice_set s.basis r e;
+  places = slice_set (slice_set s.places b (Column j)) e (place_of s b);
+  pairs = s.pairs;
+  rows = map_from (next_short s.width j lead slot) 0 s.rows;
+}
