@@ -10,3 +10,4 @@ pub mod Solutions
 pub mod Lowest
 pub mod Swaps
 pub mod Exchange
+pub mod Shorts

@@ -204,6 +204,7 @@ module _ (s t : Store) (r b e j : ℕ) (is : IsStore s) (swap : IsSwap s t r b e
   -- so what is kept of t is a form again, where its slots keep equations
   pub swapped : ((k : ℕ) → k < length t.rows → length (short_row t k) ≡ t.width + 2) → ((k : ℕ) → k < length t.rows → pos 0 <ℤ own t k) → ((k : ℕ) → k < length t.rows → IsPrimitive (short_row t k)) → IsStore t
   swapped widths positive primitive = record {
+    all_pairs = ap length swap.pairs ∙ is.all_pairs ∙ sym swap.variables;
     widths = widths;
     basics = λ i l. ⊎_elim
       (λ (f : i ≡ r). subst (λ (x : ℕ). x < variables_of t) (sym (ap (λ (k : ℕ). get_or t.basis k 0) f ∙ basis_here)) (omega (arith, swap.entering, swap.variables)))

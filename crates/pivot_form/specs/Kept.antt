@@ -102,6 +102,7 @@ table_of s = record { variables = variables_of s; rows = map (whole_row s) s.bas
 
 -- ---- what always holds of what is kept, whatever the size of the entries
 pub record IsStore (s : Store) : Type 0 where
+  pub all_pairs : length s.pairs ≡ length s.places
   pub widths : (k : ℕ) → k < length s.rows → length (short_row s k) ≡ s.width + 2
   pub basics : (i : ℕ) → i < length s.basis → slice_index s.basis i < variables_of s
   pub one_basic : (i k : ℕ) → i < length s.basis → k < length s.basis → i ≢ k → slice_index s.basis i ≢ slice_index s.basis k

@@ -10,5 +10,6 @@ mod first;
 mod form;
 mod places;
 mod rows;
+mod short;
 
 pub use form::{Form, Wide};

@@ -1,0 +1,109 @@
+-- What is kept by slots, as code reads it.
+use Rattle.std.proofs.Common.{ℕ, ◌≡◌, ◌≢◌, ◌<◌, ◌+◌, ◌⊎◌, ⊎_elim, arith, List, [], length, get_or, ap, sym, ◌∙◌, Some, subst}
+use Rattle.std.specs.Prelude.{ℤ, pos, ◌*ℤ◌, ◌-ℤ◌, unsigned_abs, Vec}
+use Rattle.std.specs.List.{All}
+use Rattle.std.proofs.lemmas.Int.{ints}
+use Rattle.exact_num.specs.declared.limits.TheConstants.{WIDE}
+use Rattle.pivot_form.specs.declared.places.Pair.{Pair}
+use Rattle.pivot_form.specs.declared.places.Place.TheVariants.{Column, Kept, Paired}
+use Rattle.pivot_form.specs.Invariant.{row_lists}
+use Rattle.pivot_form.specs.Kept.{Store, own, kept_right, kept_entry, entry_of, pair_entry, pair_of, place_of, right_of, short_row, variables_of, whole_row}
+use Rattle.pivot_form.specs.Shorts.{IsBasic, IsShort}
+use Rattle.pivot_form.proofs.Equations.{length-row_lists, row_lists-get}
+use Rattle.pivot_form.proofs.Unique.{find_row}
+use Rattle.pivot_form.proofs.Whole.{IsKeptRow, IsMirrorRow, IsPairRow, cell_at, height, pair_first, pair_none, pair_second, row_at, row_entry_inside, row_entry_last, row_kind, width_at}
+
+pub column_inside : (s : Store) (v j : ℕ) → IsShort s → v < variables_of s → place_of s v ≡ Column j → j < s.width + 2
+column_inside s v j is l e = omega (arith, is.store.columns v j l e)
+
+-- a row's vector is as long as a row
+pub vector_inside : {A : Type 0} (s : Store) (rows : List (Vec ℤ A)) (k : ℕ) (v : Vec ℤ A) → IsShort s → s.rows ≡ row_lists rows → k < length rows → v ≡ get_or rows k v → v.len ≡ s.width + 2
+vector_inside s rows k v is same l e =
+    let there : short_row s k ≡ v.items = ap (λ (xs : List (List ℤ)). get_or xs k []) same ∙ row_lists-get rows k v l ∙ sym (ap (λ (w : Vec ℤ _). w.items) e) in
+    let within : k < length s.rows = omega (arith, l, length-row_lists rows, ap length same) in
+    v.ok.0 ∙ sym (ap length there) ∙ is.store.widths k within
+
+-- ---- small numbers
+-- an equation's entries are small
+equation : (s : Store) (b : ℕ) → IsShort s → IsBasic s b → All (λ x. unsigned_abs x < WIDE) (whole_row s b)
+equation s b is basic =
+    ⊎_elim
+    (λ (found : (i : ℕ) × (i < length s.basis) × (get_or s.basis i 0 ≡ b)).
+      let e = is.form.equations found.0 [] (omega (arith, found.1, height s)) in
+      subst (All (λ x. unsigned_abs x < WIDE)) (row_at s found.0 found.1 ∙ ap (whole_row s) found.2) e.small)
+    (λ none. let c = is.store.other_place b basic.within none in absurd (basic.no_column c.0 c.1))
+    (find_row (length s.basis) (λ i. get_or s.basis i 0) b)
+
+pub entry_small : (s : Store) (b v : ℕ) → IsShort s → IsBasic s b → v < variables_of s → unsigned_abs (entry_of s b v) < WIDE
+entry_small s b v is basic l = subst (λ (x : ℤ). unsigned_abs x < WIDE) (cell_at s b v (omega (arith, l)) ∙ row_entry_inside s b v l) (equation s b is basic v (pos 0) (omega (arith, l, width_at s b)))
+
+pub right_small : (s : Store) (b : ℕ) → IsShort s → IsBasic s b → unsigned_abs (right_of s b) < WIDE
+right_small s b is basic = subst (λ (x : ℤ). unsigned_abs x < WIDE) (cell_at s b (variables_of s) (omega arith) ∙ row_entry_last s b) (equation s b is basic (variables_of s) (pos 0) (omega (arith, width_at s b)))
+
+-- ---- the equation of a pair, and of a mirror
+module _ (s : Store) (b : ℕ) (p : Pair) (is : IsShort s) (basic : IsBasic s b) (paired : place_of s b ≡ Paired) (pair : pair_of s b ≡ Some p) where
+  good : (p.other < variables_of s) × (p.other ≢ b) × (pair_of s p.other ≡ Some (record { other = b; sum = p.sum }))
+  good = is.store.pairs b p basic.within pair
+
+  pub other_within : p.other < variables_of s
+  other_within = good.0
+
+  pub other_apart : p.other ≢ b
+  other_apart = good.1
+
+  pub slot_within : (k : ℕ) → place_of s p.other ≡ Kept k → k < length s.rows
+  slot_within k e = is.store.kept p.other k good.0 e
+
+  as_pair : (j : ℕ) → place_of s p.other ≡ Column j → IsPairRow s b p j
+  as_pair j e = row_kind s b is.store basic.within basic.no_column
+    (λ k row. absurd (kept_paired k (sym row.place ∙ paired)))
+    (λ q i row. let same_pair : q ≡ p = let f : Some q ≡ Some p = sym row.pair ∙ pair in cc in
+      let same_column : i ≡ j = let f : Column i ≡ Column j = sym row.other ∙ ap (λ (x : Pair). place_of s x.other) same_pair ∙ e in cc in
+      subst (λ (x : Pair). IsPairRow s b x j) same_pair (subst (λ (x : ℕ). IsPairRow s b q x) same_column row))
+    (λ q k row. let same_pair : q ≡ p = let f : Some q ≡ Some p = sym row.pair ∙ pair in cc in
+      absurd (kept_column k j (sym row.other ∙ ap (λ (x : Pair). place_of s x.other) same_pair ∙ e)))
+    where
+      kept_paired : (k : ℕ) → Kept k ≡ Paired → ⊥
+      kept_paired k f = cc
+
+      kept_column : (k j : ℕ) → Kept k ≡ Column j → ⊥
+      kept_column k j f = cc
+
+  as_mirror : (k : ℕ) → place_of s p.other ≡ Kept k → IsMirrorRow s b p k
+  as_mirror k e = row_kind s b is.store basic.within basic.no_column
+    (λ l row. absurd (kept_paired l (sym row.place ∙ paired)))
+    (λ q i row. let same_pair : q ≡ p = let f : Some q ≡ Some p = sym row.pair ∙ pair in cc in
+      absurd (column_kept i k (sym row.other ∙ ap (λ (x : Pair). place_of s x.other) same_pair ∙ e)))
+    (λ q l row. let same_pair : q ≡ p = let f : Some q ≡ Some p = sym row.pair ∙ pair in cc in
+      let same_slot : l ≡ k = let f : Kept l ≡ Kept k = sym row.other ∙ ap (λ (x : Pair). place_of s x.other) same_pair ∙ e in cc in
+      subst (λ (x : Pair). IsMirrorRow s b x k) same_pair (subst (λ (x : ℕ). IsMirrorRow s b q x) same_slot row))
+    where
+      kept_paired : (l : ℕ) → Kept l ≡ Paired → ⊥
+      kept_paired l f = cc
+
+      column_kept : (i k : ℕ) → Column i ≡ Kept k → ⊥
+      column_kept i k f = cc
+
+  pub pair_at : (j v : ℕ) → place_of s p.other ≡ Column j → entry_of s b v ≡ pair_entry b p.other v
+  pair_at j v e = let row = as_pair j e in row.entries v
+
+  pub pair_right : (j : ℕ) → place_of s p.other ≡ Column j → right_of s b ≡ p.sum
+  pair_right j e = let row = as_pair j e in row.right
+
+  mirror_at : (k v : ℕ) → place_of s p.other ≡ Kept k → entry_of s b v ≡ own s k *ℤ pair_entry b p.other v -ℤ kept_entry s k v
+  mirror_at k v e = let row = as_mirror k e in row.entries v
+
+  pub mirror_right : (k : ℕ) → place_of s p.other ≡ Kept k → right_of s b ≡ own s k *ℤ p.sum -ℤ kept_right s k
+  mirror_right k e = let row = as_mirror k e in row.right
+
+  -- at the two of the pair and elsewhere
+  pub mirror_here : (k v : ℕ) → place_of s p.other ≡ Kept k → (v ≡ b) ⊎ (v ≡ p.other) → entry_of s b v ≡ own s k -ℤ kept_entry s k v
+  mirror_here k v e where_ =
+      let one : pair_entry b p.other v ≡ pos 1 = ⊎_elim
+        (λ (f : v ≡ b). pair_first b p.other v f (λ g. good.1 (sym g ∙ f)))
+        (λ (f : v ≡ p.other). pair_second b p.other v (λ g. good.1 (sym f ∙ g)) f)
+        where_ in
+      mirror_at k v e ∙ ap (λ (x : ℤ). own s k *ℤ x -ℤ kept_entry s k v) one ∙ omega (arith, ints)
+
+  pub mirror_off : (k v : ℕ) → place_of s p.other ≡ Kept k → v ≢ b → v ≢ p.other → entry_of s b v ≡ pos 0 -ℤ kept_entry s k v
+  mirror_off k v e off away = mirror_at k v e ∙ ap (λ (x : ℤ). own s k *ℤ x -ℤ kept_entry s k v) (pair_none b p.other v off away) ∙ omega (arith, ints)

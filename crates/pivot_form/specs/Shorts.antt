@@ -1,0 +1,26 @@
+-- What a form that is kept by slots and pairs stands for.
+use Rattle.std.specs.Prelude.{ℕ, ◌≡◌, ◌≢◌, ◌<◌, ◌+◌, ◌^◌, length, slice_index}
+use Rattle.pivot_form.specs.declared.places.Place.TheVariants.{Column}
+use Rattle.pivot_form.specs.declared.short.Short.{Short}
+use Rattle.pivot_form.specs.Invariant.{IsForm, row_lists}
+use Rattle.pivot_form.specs.Kept.{IsStore, Store, place_of, table_of, variables_of}
+
+abbrev pub store_of : Short → Store
+store_of s = record {
+  width = s.width;
+  basis = s.basics.items;
+  places = s.places.items;
+  pairs = s.pairs.items;
+  rows = row_lists s.rows.items;
+}
+
+-- what is kept is a form, whose entries are small
+pub record IsShort (s : Store) : Type 0 where
+  pub few : s.width + 2 < 2 ^ 63
+  pub store : IsStore s
+  pub form : IsForm (table_of s)
+
+-- the variable is basic
+pub record IsBasic (s : Store) (b : ℕ) : Type 0 where
+  pub within : b < variables_of s
+  pub no_column : (j : ℕ) → place_of s b ≢ Column j

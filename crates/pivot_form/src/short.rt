@@ -1,0 +1,128 @@
+// Forms kept by slots and pairs.
+ghost use Rattle.std.specs.Prelude.{◌≡◌, ◌<◌, ◌+◌, length, slice_index, Some};
+ghost use Rattle.pivot_form.specs.Kept.{cell, entry_of, kept_entry, pair_of, place_of, right_of, variables_of, IsStore};
+ghost use Rattle.pivot_form.specs.Shorts.{IsBasic, IsShort, store_of};
+ghost use Rattle.pivot_form.specs.declared.places.Place.TheVariants.{Paired};
+
+use crate::places::{Pair, Place};
+
+/// A form without what says nothing: for each slot the entries of the columns, the basic entry and the right side of an
+/// equation that is no pair's.
+#[derive(Debug, Drop)]
+pub(crate) struct Short {
+    /// How many columns there are.
+    pub(crate) width: usize,
+    /// The basic variable of each equation.
+    pub(crate) basics: Vec<usize>,
+    /// Where each variable stands.
+    pub(crate) places: Vec<Place>,
+    /// The pair of each variable, if it is one of two.
+    pub(crate) pairs: Vec<Option<Pair>>,
+    /// What the slots keep.
+    pub(crate) rows: Vec<Vec<i64>>,
+}
+
+impl Short {
+    /// How many equations the form has.
+    pub(crate) fn row_count(&self) -> usize
+        ensures { result ≡ length (store_of self.now).basis }
+    {
+        self.basics.len()
+    }
+
+    /// The basic variable of the equation in the row.
+    pub(crate) fn basic(&self, row: usize) -> usize
+        requires { row < length (store_of self.now).basis }
+        ensures { result ≡ slice_index (store_of self.now).basis row }
+    {
+        self.basics[row]
+    }
+
+    /// What the slot keeps at this place: the entry of a column, the basic entry, or the right side.
+    pub(crate) fn cell(&self, slot: usize, place: usize) -> i64
+        requires short { IsShort (store_of self.now) }
+        requires slot { slot < length (store_of self.now).rows }
+        requires place { place < self.now.width + 2 }
+        ensures { result ≡ cell (store_of self.now) slot place }
+    {
+        self.rows[slot][place]
+    }
+
+    /// The entry of the variable in the equation that the slot keeps.
+    #[tactic(auto, using(crate::proofs::Shorts::column_inside))]
+    pub(crate) fn kept_entry(&self, slot: usize, variable: usize) -> i64
+        requires short { IsShort (store_of self.now) }
+        requires slot { slot < length (store_of self.now).rows }
+        requires variable { variable < variables_of (store_of self.now) }
+        ensures { result ≡ kept_entry (store_of self.now) slot variable }
+    {
+        match self.places[variable] {
+            Place::Column(column) => self.cell(slot, column),
+            Place::Kept(own) if own == slot => self.cell(slot, self.width),
+            _ => 0,
+        }
+    }
+
+    /// The entry of the variable in the equation of a basic variable.
+    pub(crate) fn entry(&self, basic: usize, variable: usize) -> i64
+        requires short { IsShort (store_of self.now) }
+        requires basic { IsBasic (store_of self.now) basic }
+        requires variable { variable < variables_of (store_of self.now) }
+        ensures { result ≡ entry_of (store_of self.now) basic variable }
+    {
+        match (self.places[basic], self.pairs[basic]) {
+            (Place::Kept(slot), _) => self.kept_entry(slot, variable),
+            (Place::Paired, Some(pair)) => self.paired_entry(basic, pair, variable),
+            _ => unreachable!(),
+        }
+    }
+
+    /// The entry of the variable in the equation of a basic variable that follows from its pair.
+    fn paired_entry(&self, basic: usize, pair: Pair, variable: usize) -> i64
+        requires short { IsShort (store_of self.now) }
+        requires basic { IsBasic (store_of self.now) basic }
+        requires paired { place_of (store_of self.now) basic ≡ Paired }
+        requires pair { pair_of (store_of self.now) basic ≡ Some pair }
+        requires variable { variable < variables_of (store_of self.now) }
+        ensures { result ≡ entry_of (store_of self.now) basic variable }
+    {
+        let of_pair = variable == basic || variable == pair.other;
+        match self.places[pair.other] {
+            Place::Kept(slot) if of_pair => {
+                self.cell(slot, self.width) - self.kept_entry(slot, variable)
+            }
+            Place::Kept(slot) => -self.kept_entry(slot, variable),
+            _ => i64::from(of_pair),
+        }
+    }
+
+    /// The right side of the equation of a basic variable.
+    pub(crate) fn right(&self, basic: usize) -> i64
+        requires short { IsShort (store_of self.now) }
+        requires basic { IsBasic (store_of self.now) basic }
+        ensures { result ≡ right_of (store_of self.now) basic }
+    {
+        match (self.places[basic], self.pairs[basic]) {
+            (Place::Kept(slot), _) => self.cell(slot, self.width + 1),
+            (Place::Paired, Some(pair)) => self.paired_right(basic, pair),
+            _ => unreachable!(),
+        }
+    }
+
+    /// The right side of the equation of a basic variable that follows from its pair.
+    fn paired_right(&self, basic: usize, pair: Pair) -> i64
+        requires short { IsShort (store_of self.now) }
+        requires basic { IsBasic (store_of self.now) basic }
+        requires paired { place_of (store_of self.now) basic ≡ Paired }
+        requires pair { pair_of (store_of self.now) basic ≡ Some pair }
+        ensures { result ≡ right_of (store_of self.now) basic }
+    {
+        match self.places[pair.other] {
+            Place::Kept(slot) => {
+                let whole = i128::from(self.cell(slot, self.width)) * i128::from(pair.sum);
+                (whole - i128::from(self.cell(slot, self.width + 1))) as i64
+            }
+            _ => pair.sum,
+        }
+    }
+}
