@@ -3,15 +3,17 @@ use Rattle.std.proofs.Common.{ℕ, ◌≡◌, ◌≢◌, ◌<◌, ◌+◌, ◌�
 use Rattle.std.specs.Prelude.{ℤ, pos, ◌*ℤ◌, ◌-ℤ◌, unsigned_abs, Vec}
 use Rattle.std.specs.List.{All}
 use Rattle.std.proofs.lemmas.Int.{ints}
+use Rattle.std.proofs.lemmas.Bool.{cases_eq, cases_lt}
 use Rattle.exact_num.specs.declared.limits.TheConstants.{WIDE}
 use Rattle.pivot_form.specs.declared.places.Pair.{Pair}
+use Rattle.pivot_form.specs.declared.places.Place.{Place}
 use Rattle.pivot_form.specs.declared.places.Place.TheVariants.{Column, Kept, Paired}
 use Rattle.pivot_form.specs.Invariant.{row_lists}
-use Rattle.pivot_form.specs.Kept.{Store, own, kept_right, kept_entry, entry_of, pair_entry, pair_of, place_of, right_of, short_row, variables_of, whole_row}
+use Rattle.pivot_form.specs.Kept.{Store, cell, entry_at, entry_by, own, kept_right, kept_entry, entry_of, pair_entry, pair_of, place_of, right_by, right_of, short_row, variables_of, whole_row}
 use Rattle.pivot_form.specs.Shorts.{IsBasic, IsShort}
 use Rattle.pivot_form.proofs.Equations.{length-row_lists, row_lists-get}
 use Rattle.pivot_form.proofs.Unique.{find_row}
-use Rattle.pivot_form.proofs.Whole.{IsKeptRow, IsMirrorRow, IsPairRow, cell_at, height, pair_first, pair_none, pair_second, row_at, row_entry_inside, row_entry_last, row_kind, width_at}
+use Rattle.pivot_form.proofs.Whole.{IsKeptRow, IsMirrorRow, IsPairRow, cell_at, height, kept_own, pair_first, pair_none, pair_second, row_at, row_entry_inside, row_entry_last, row_kind, width_at}
 
 pub column_inside : (s : Store) (v j : ℕ) → IsShort s → v < variables_of s → place_of s v ≡ Column j → j < s.width + 2
 column_inside s v j is l e = omega (arith, is.store.columns v j l e)
@@ -39,6 +41,26 @@ entry_small s b v is basic l = subst (λ (x : ℤ). unsigned_abs x < WIDE) (cell
 
 pub right_small : (s : Store) (b : ℕ) → IsShort s → IsBasic s b → unsigned_abs (right_of s b) < WIDE
 right_small s b is basic = subst (λ (x : ℤ). unsigned_abs x < WIDE) (cell_at s b (variables_of s) (omega arith) ∙ row_entry_last s b) (equation s b is basic (variables_of s) (pos 0) (omega (arith, width_at s b)))
+
+pub sum_small : (s : Store) (v : ℕ) (p : Pair) → IsShort s → v < variables_of s → pair_of s v ≡ Some p → unsigned_abs p.sum < WIDE
+sum_small s v p is l e = omega (arith, is.sums v p l e)
+
+-- and so is what the slots keep
+pub cell_small : (s : Store) (k j : ℕ) → IsShort s → k < length s.rows → j < s.width + 2 → unsigned_abs (cell s k j) < WIDE
+cell_small s k j is l h =
+    let found = is.store.all_kept k l in
+    let b = get_or s.basis found.0 0 in
+    let basic : IsBasic s b = record { within = is.store.basics found.0 found.1; no_column = λ i. is.store.basic_place found.0 i found.1 } in
+    let as_kept : (v : ℕ) → entry_of s b v ≡ kept_entry s k v = λ v. ap (λ (x : Place). entry_by s b x v) found.2 in
+    ⊎_elim
+    (λ (inside : j < s.width). let c = is.store.all_columns j inside in
+      subst (λ (x : ℤ). unsigned_abs x < WIDE) (as_kept c.0 ∙ ap (entry_at s k) c.2) (entry_small s b c.0 is basic c.1))
+    (λ past. ⊎_elim
+      (λ (e : j ≡ s.width). subst (λ (x : ℤ). unsigned_abs x < WIDE) (as_kept b ∙ kept_own s k b found.2 ∙ ap (cell s k) (sym e)) (entry_small s b b is basic basic.within))
+      (λ off. let e : s.width + 1 ≡ j = omega (arith, h, past, off) in
+        subst (λ (x : ℤ). unsigned_abs x < WIDE) (ap (right_by s b) found.2 ∙ ap (cell s k) e) (right_small s b is basic))
+      (cases_eq j s.width))
+    (cases_lt j s.width)
 
 -- ---- the equation of a pair, and of a mirror
 module _ (s : Store) (b : ℕ) (p : Pair) (is : IsShort s) (basic : IsBasic s b) (paired : place_of s b ≡ Paired) (pair : pair_of s b ≡ Some p) where

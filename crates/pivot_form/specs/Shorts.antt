@@ -1,9 +1,11 @@
 -- What a form that is kept by slots and pairs stands for.
-use Rattle.std.specs.Prelude.{ℕ, ◌≡◌, ◌≢◌, ◌<◌, ◌+◌, ◌^◌, length, slice_index}
+use Rattle.std.specs.Prelude.{ℕ, ◌≡◌, ◌≢◌, ◌<◌, ◌+◌, ◌^◌, Some, length, unsigned_abs}
+use Rattle.row_program.specs.declared.limits.TheConstants.{TERM_LIMIT}
+use Rattle.pivot_form.specs.declared.places.Pair.{Pair}
 use Rattle.pivot_form.specs.declared.places.Place.TheVariants.{Column}
 use Rattle.pivot_form.specs.declared.short.Short.{Short}
 use Rattle.pivot_form.specs.Invariant.{IsForm, row_lists}
-use Rattle.pivot_form.specs.Kept.{IsStore, Store, place_of, table_of, variables_of}
+use Rattle.pivot_form.specs.Kept.{IsStore, Store, pair_of, place_of, table_of, variables_of}
 
 abbrev pub store_of : Short → Store
 store_of s = record {
@@ -17,6 +19,7 @@ store_of s = record {
 -- what is kept is a form, whose entries are small
 pub record IsShort (s : Store) : Type 0 where
   pub few : s.width + 2 < 2 ^ 63
+  pub sums : (v : ℕ) (p : Pair) → v < variables_of s → pair_of s v ≡ Some p → unsigned_abs p.sum < TERM_LIMIT
   pub store : IsStore s
   pub form : IsForm (table_of s)
 

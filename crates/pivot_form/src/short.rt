@@ -1,10 +1,11 @@
 // Forms kept by slots and pairs.
-ghost use Rattle.std.specs.Prelude.{◌≡◌, ◌<◌, ◌+◌, length, slice_index, Some};
+ghost use Rattle.std.specs.Prelude.{◌≡◌, ◌<◌, ◌+◌, length, slice_index, unsigned_abs, Some};
 ghost use Rattle.pivot_form.specs.Kept.{cell, entry_of, kept_entry, pair_of, place_of, right_of, variables_of, IsStore};
 ghost use Rattle.pivot_form.specs.Shorts.{IsBasic, IsShort, store_of};
-ghost use Rattle.pivot_form.specs.declared.places.Place.TheVariants.{Paired};
+ghost use Rattle.pivot_form.specs.declared.places.Place.TheVariants.{Kept, Paired};
 
 use crate::places::{Pair, Place};
+use exact_num::{WIDE, cross};
 
 /// A form without what says nothing: for each slot the entries of the columns, the basic entry and the right side of an
 /// equation that is no pair's.
@@ -39,11 +40,13 @@ impl Short {
     }
 
     /// What the slot keeps at this place: the entry of a column, the basic entry, or the right side.
+    #[tactic(auto, using(crate::proofs::Shorts::cell_small))]
     pub(crate) fn cell(&self, slot: usize, place: usize) -> i64
         requires short { IsShort (store_of self.now) }
         requires slot { slot < length (store_of self.now).rows }
         requires place { place < self.now.width + 2 }
-        ensures { result ≡ cell (store_of self.now) slot place }
+        ensures value { result ≡ cell (store_of self.now) slot place }
+        ensures small { unsigned_abs result < WIDE }
     {
         self.rows[slot][place]
     }
@@ -54,7 +57,8 @@ impl Short {
         requires short { IsShort (store_of self.now) }
         requires slot { slot < length (store_of self.now).rows }
         requires variable { variable < variables_of (store_of self.now) }
-        ensures { result ≡ kept_entry (store_of self.now) slot variable }
+        ensures value { result ≡ kept_entry (store_of self.now) slot variable }
+        ensures small { unsigned_abs result < WIDE }
     {
         match self.places[variable] {
             Place::Column(column) => self.cell(slot, column),
@@ -78,6 +82,7 @@ impl Short {
     }
 
     /// The entry of the variable in the equation of a basic variable that follows from its pair.
+    #[tactic(auto, using(crate::proofs::Shorts::other_within))]
     fn paired_entry(&self, basic: usize, pair: Pair, variable: usize) -> i64
         requires short { IsShort (store_of self.now) }
         requires basic { IsBasic (store_of self.now) basic }
@@ -86,13 +91,28 @@ impl Short {
         requires variable { variable < variables_of (store_of self.now) }
         ensures { result ≡ entry_of (store_of self.now) basic variable }
     {
-        let of_pair = variable == basic || variable == pair.other;
         match self.places[pair.other] {
-            Place::Kept(slot) if of_pair => {
-                self.cell(slot, self.width) - self.kept_entry(slot, variable)
-            }
-            Place::Kept(slot) => -self.kept_entry(slot, variable),
-            _ => i64::from(of_pair),
+            Place::Kept(slot) => self.mirror_entry(slot, basic, pair, variable),
+            _ => i64::from(variable == basic || variable == pair.other),
+        }
+    }
+
+    /// The same, where the equation of the pair's other variable is kept in this slot.
+    #[tactic(auto, using(crate::proofs::Shorts::slot_within))]
+    fn mirror_entry(&self, slot: usize, basic: usize, pair: Pair, variable: usize) -> i64
+        requires short { IsShort (store_of self.now) }
+        requires basic { IsBasic (store_of self.now) basic }
+        requires paired { place_of (store_of self.now) basic ≡ Paired }
+        requires pair { pair_of (store_of self.now) basic ≡ Some pair }
+        requires other { place_of (store_of self.now) pair.other ≡ Kept slot }
+        requires variable { variable < variables_of (store_of self.now) }
+        ensures { result ≡ entry_of (store_of self.now) basic variable }
+    {
+        let kept = self.kept_entry(slot, variable);
+        if variable == basic || variable == pair.other {
+            self.cell(slot, self.width) - kept
+        } else {
+            -kept
         }
     }
 
@@ -110,6 +130,7 @@ impl Short {
     }
 
     /// The right side of the equation of a basic variable that follows from its pair.
+    #[tactic(auto, using(crate::proofs::Shorts::other_within))]
     fn paired_right(&self, basic: usize, pair: Pair) -> i64
         requires short { IsShort (store_of self.now) }
         requires basic { IsBasic (store_of self.now) basic }
@@ -118,11 +139,26 @@ impl Short {
         ensures { result ≡ right_of (store_of self.now) basic }
     {
         match self.places[pair.other] {
-            Place::Kept(slot) => {
-                let whole = i128::from(self.cell(slot, self.width)) * i128::from(pair.sum);
-                (whole - i128::from(self.cell(slot, self.width + 1))) as i64
-            }
+            Place::Kept(slot) => self.mirror_right(slot, basic, pair),
             _ => pair.sum,
         }
+    }
+
+    /// The same, where the equation of the pair's other variable is kept in this slot.
+    #[tactic(auto, using(crate::proofs::Shorts::slot_within, crate::proofs::Shorts::sum_small))]
+    fn mirror_right(&self, slot: usize, basic: usize, pair: Pair) -> i64
+        requires short { IsShort (store_of self.now) }
+        requires basic { IsBasic (store_of self.now) basic }
+        requires paired { place_of (store_of self.now) basic ≡ Paired }
+        requires pair { pair_of (store_of self.now) basic ≡ Some pair }
+        requires other { place_of (store_of self.now) pair.other ≡ Kept slot }
+        ensures { result ≡ right_of (store_of self.now) basic }
+    {
+        cross(
+            self.cell(slot, self.width),
+            pair.sum,
+            self.cell(slot, self.width + 1),
+            1,
+        ) as i64
     }
 }
