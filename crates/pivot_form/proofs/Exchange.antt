@@ -159,7 +159,7 @@ spread g x p a q b y e =
     ∙ same (times (minus (times P A) (times Q B)) Y) (minus (times P (times A Y)) (times Q (times B Y))) (omega arith)
 
 -- an entry that a slot doesn't keep
-not_kept : (s : Store) (k : ℕ) (p : Place) → p ≢ Kept k → ((j : ℕ) → p ≢ Column j) → entry_at s k p ≡ pos 0
+pub not_kept : (s : Store) (k : ℕ) (p : Place) → p ≢ Kept k → ((j : ℕ) → p ≢ Column j) → entry_at s k p ≡ pos 0
 not_kept s k (Column j) apart no_column = absurd (no_column j refl)
 not_kept s k (Kept l) apart no_column =
     ⊎_elim (λ (e : l ≡ k). absurd (apart (ap Kept e))) (λ off. grind (arith, nat_tests)) (cases_eq l k)

@@ -10,4 +10,5 @@ pub mod Solutions
 pub mod Lowest
 pub mod Swaps
 pub mod Exchange
+pub mod Flips
 pub mod Shorts

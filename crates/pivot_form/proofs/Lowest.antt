@@ -25,7 +25,7 @@ times_divides : (d : ℕ) (z x : ℤ) → z *ℤ pos d ≡ x → d ∣ unsigned_
 times_divides d z x e = subst (λ (n : ℕ). d ∣ n) (sym (unsigned_abs-mul z (pos d)) ∙ ap unsigned_abs e) (dvd-mul_left d (unsigned_abs z))
 
 -- what divides p a - q b and a divides q b; here q is 1 or -1
-rest_divides : (d : ℕ) (p a b : ℤ) → d ∣ unsigned_abs (p *ℤ a -ℤ b) → d ∣ unsigned_abs p → d ∣ unsigned_abs b
+pub rest_divides : (d : ℕ) (p a b : ℤ) → d ∣ unsigned_abs (p *ℤ a -ℤ b) → d ∣ unsigned_abs p → d ∣ unsigned_abs b
 rest_divides d p a b whole part =
     let W = int_div (p *ℤ a -ℤ b) (pos d) in
     let P = int_div p (pos d) in
@@ -43,7 +43,7 @@ at_last : (s : Store) (d b : ℕ) → All (λ x. d ∣ unsigned_abs x) (whole_ro
 at_last s d b all = subst (λ (x : ℤ). d ∣ unsigned_abs x) (cell_at s b (variables_of s) (omega arith) ∙ row_entry_last s b) (all (variables_of s) (pos 0) (omega (arith, width_at s b)))
 
 -- what divides each cell of a slot is 1
-all_cells_one : (s : Store) (d k : ℕ) → IsStore s → k < length s.rows → ((j : ℕ) → j < s.width → d ∣ unsigned_abs (cell s k j)) → d ∣ unsigned_abs (own s k) → d ∣ unsigned_abs (kept_right s k) → d ≡ 1
+pub all_cells_one : (s : Store) (d k : ℕ) → IsStore s → k < length s.rows → ((j : ℕ) → j < s.width → d ∣ unsigned_abs (cell s k j)) → d ∣ unsigned_abs (own s k) → d ∣ unsigned_abs (kept_right s k) → d ≡ 1
 all_cells_one s d k is l columns mine last =
     is.primitive k l d (λ q e h. subst (λ (x : ℤ). d ∣ unsigned_abs x) (sym (at_default q e h)) (by q (omega (arith, h, is.widths k l))))
   where

@@ -4,6 +4,7 @@
 -- two is nonbasic, it is the other's equation; where both are basic, one of them has an equation that is kept, and that of the
 -- other is the pair's, times the basic entry, less the one that is kept.
 use Rattle.std.specs.Prelude.{ℕ, ℤ, pos, ◌≡◌, ◌≢◌, ◌<◌, ◌≤◌, ◌+◌, ◌*◌, ◌+ℤ◌, ◌*ℤ◌, ◌-ℤ◌, ◌<ℤ◌, ◌==◌, if◌then◌else◌, List, [], length, map, slice_index, slice_index_or, slice_set, Bool, false, Option, Some, None}
+use lib.IntN.{neg_ℤ}
 use Rattle.std.specs.List.{range_with_len}
 use Rattle.exact_num.specs.Divisors.{IsPrimitive, primitive}
 use Rattle.row_program.specs.Forms.{Table, combination, map_from}
@@ -150,4 +151,21 @@ exchanged s r b e j lead slot = record {
   places = slice_set (slice_set s.places b (Column j)) e (place_of s b);
   pairs = s.pairs;
   rows = map_from (next_short s.width j lead slot) 0 s.rows;
+}
+
+-- ---- the other equation of a pair is kept
+-- the pair's equation, times the basic entry, less the row that a slot keeps
+abbrev pub mirrored : ℕ → ℤ → List ℤ → List ℤ
+mirrored width sum row =
+    slice_set (slice_set (map neg_ℤ row) width (slice_index_or row width (pos 0)))
+    (width + 1) (slice_index_or row width (pos 0) *ℤ sum -ℤ slice_index_or row (width + 1) (pos 0))
+
+-- the slot k keeps the equation of b in place of that of its pair's other variable
+abbrev pub flipped : Store → ℕ → Pair → ℕ → Store
+flipped s b pair k = record {
+  width = s.width;
+  basis = s.basis;
+  places = slice_set (slice_set s.places b (Kept k)) pair.other Paired;
+  pairs = s.pairs;
+  rows = slice_set s.rows k (mirrored s.width pair.sum (short_row s k));
 }

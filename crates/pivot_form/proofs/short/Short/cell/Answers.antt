@@ -1,3 +1,4 @@
+use Rattle.pivot_form.proofs.Flips.{flipped_store}
 use Rattle.std.proofs.Common.{arith, refl}
 use Rattle.pivot_form.specs.Shorts.{store_of}
 use Rattle.pivot_form.proofs.Equations.{length-row_lists}
