@@ -127,10 +127,13 @@ pub record IsStore (s : Store) : Type 0 where
 abbrev pub moved : ℕ → ℕ → List ℤ → List ℤ
 moved width j lead = slice_set (slice_set lead j (slice_index_or lead width (pos 0))) width (pos 0)
 
+-- a row, cleared of the variable in the column j by an equation whose entry there is p and stands no more in the lead
+abbrev pub cleared_by : ℕ → ℤ → List ℤ → List ℤ → List ℤ
+cleared_by j p lead row = primitive (combination p (slice_set row j (pos 0)) (slice_index_or row j (pos 0)) lead)
+
 -- a slot's row, cleared of the entering variable
 abbrev pub cleared : ℕ → ℕ → List ℤ → List ℤ → List ℤ
-cleared width j lead row =
-    primitive (combination (slice_index_or lead j (pos 0)) (slice_set row j (pos 0)) (slice_index_or row j (pos 0)) (moved width j lead))
+cleared width j lead row = cleared_by j (slice_index_or lead j (pos 0)) (moved width j lead) row
 
 -- what the entering variable's own slot keeps
 abbrev pub taken : ℕ → ℕ → List ℤ → List ℤ

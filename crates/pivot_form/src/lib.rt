@@ -6,6 +6,7 @@
 //! tools and on the definitions of `row_program`.
 #![tactic(auto)]
 
+mod clearing;
 mod first;
 mod form;
 mod places;
