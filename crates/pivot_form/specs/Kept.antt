@@ -143,8 +143,11 @@ abbrev pub is_slot : Option ℕ → ℕ → Bool
 is_slot None k = false
 is_slot (Some l) k = l == k
 
+abbrev pub next_by : ℕ → ℕ → ℤ → List ℤ → Option ℕ → ℕ → List ℤ → List ℤ
+next_by width j p lead slot k row = if is_slot slot k then slice_set lead width p else cleared_by j p lead row
+
 abbrev pub next_short : ℕ → ℕ → List ℤ → Option ℕ → ℕ → List ℤ → List ℤ
-next_short width j lead slot k row = if is_slot slot k then taken width j lead else cleared width j lead row
+next_short width j lead slot k row = next_by width j (slice_index_or lead j (pos 0)) (moved width j lead) slot k row
 
 -- the form after the variable e, in the column j, took the place of the basic variable b of the equation r
 abbrev pub exchanged : Store → ℕ → ℕ → ℕ → ℕ → List ℤ → Option ℕ → Store
