@@ -2,7 +2,11 @@
 use Rattle.std.proofs.Common.{ℕ, ◌≡◌, ◌≢◌, ◌<◌, ◌+◌, ◌⊎◌, ⊎_elim, arith, List, [], length, get_or, ap, sym, ◌∙◌, Some, subst}
 use Rattle.std.specs.Prelude.{ℤ, pos, ◌*ℤ◌, ◌-ℤ◌, unsigned_abs, Vec}
 use Rattle.std.specs.List.{All}
-use Rattle.std.proofs.lemmas.Int.{ints}
+use Rattle.std.specs.Int.RustNames.{FitsSigned}
+use mir.Syntax.{w64, w128}
+use mir.Val.{to_z, of_z}
+use Rattle.std.proofs.lemmas.Int.{ints, to_z-of_z, fits_signed_from_abs}
+use Rattle.std.proofs.lemmas.List.{get_or_default}
 use Rattle.std.proofs.lemmas.Bool.{cases_eq, cases_lt}
 use Rattle.exact_num.specs.declared.limits.TheConstants.{WIDE}
 use Rattle.pivot_form.specs.declared.places.Pair.{Pair}
@@ -25,7 +29,30 @@ vector_inside s rows k v is same l e =
     let within : k < length s.rows = omega (arith, l, length-row_lists rows, ap length same) in
     v.ok.0 ∙ sym (ap length there) ∙ is.store.widths k within
 
+-- what is read of a row's vector is what the slot keeps
+pub cell_read : {A : Type 0} (s : Store) (rows : List (Vec ℤ A)) (k j : ℕ) (v : Vec ℤ A) (x : ℤ) → IsShort s → s.rows ≡ row_lists rows → k < length rows → v ≡ get_or rows k v → j < s.width + 2 → x ≡ get_or v.items j x → x ≡ cell s k j
+cell_read s rows k j v x is same l e inside read =
+    let there : short_row s k ≡ v.items = ap (λ (xs : List (List ℤ)). get_or xs k []) same ∙ row_lists-get rows k v l ∙ sym (ap (λ (w : Vec ℤ _). w.items) e) in
+    let wide : length v.items ≡ s.width + 2 = sym v.ok.0 ∙ vector_inside s rows k v is same l e in
+    read ∙ get_or_default v.items j x (pos 0) (omega (arith, inside, wide)) ∙ sym (ap (λ (row : List ℤ). get_or row j (pos 0)) there)
+
 -- ---- small numbers
+-- a small number is what 64 bits keep of it
+pub kept_bits : (x : ℤ) → unsigned_abs x < WIDE → to_z w64 (of_z w64 x) ≡ x
+kept_bits x small = to_z-of_z w64 x (fits_signed_from_abs w64 x small)
+
+pub small_bits : (x : ℤ) → unsigned_abs x < WIDE → unsigned_abs (to_z w64 (of_z w64 x)) < WIDE
+small_bits x small = subst (λ (y : ℤ). unsigned_abs y < WIDE) (sym (kept_bits x small)) small
+
+pub wide_bits : (x : ℤ) → unsigned_abs x < WIDE → to_z w128 (of_z w128 x) ≡ x
+wide_bits x small = to_z-of_z w128 x (fits_signed_from_abs w128 x (omega (arith, small)))
+
+pub cast_fits : (x : ℤ) → unsigned_abs x < WIDE → FitsSigned w64 (to_z w128 (of_z w128 x))
+cast_fits x small = subst (FitsSigned w64) (sym (wide_bits x small)) (fits_signed_from_abs w64 x small)
+
+pub cast_bits : (x : ℤ) → unsigned_abs x < WIDE → to_z w64 (of_z w64 (to_z w128 (of_z w128 x))) ≡ x
+cast_bits x small = ap (λ (y : ℤ). to_z w64 (of_z w64 y)) (wide_bits x small) ∙ kept_bits x small
+
 -- an equation's entries are small
 equation : (s : Store) (b : ℕ) → IsShort s → IsBasic s b → All (λ x. unsigned_abs x < WIDE) (whole_row s b)
 equation s b is basic =
@@ -129,3 +156,14 @@ module _ (s : Store) (b : ℕ) (p : Pair) (is : IsShort s) (basic : IsBasic s b)
 
   pub mirror_off : (k v : ℕ) → place_of s p.other ≡ Kept k → v ≢ b → v ≢ p.other → entry_of s b v ≡ pos 0 -ℤ kept_entry s k v
   mirror_off k v e off away = mirror_at k v e ∙ ap (λ (x : ℤ). own s k *ℤ x -ℤ kept_entry s k v) (pair_none b p.other v off away) ∙ omega (arith, ints)
+
+  -- the right side as code computes it
+  pub crossed_right : (k : ℕ) (a r x : ℤ) → place_of s p.other ≡ Kept k → a ≡ own s k → r ≡ kept_right s k → unsigned_abs a < WIDE → unsigned_abs r < WIDE
+      → x ≡ to_z w64 (of_z w64 a) *ℤ to_z w64 (of_z w64 p.sum) -ℤ to_z w64 (of_z w64 r) *ℤ pos 1 → x ≡ right_of s b
+  crossed_right k a r x e own_is right_is small_a small_r value =
+      value
+      ∙ ap (λ (z : ℤ). z *ℤ to_z w64 (of_z w64 p.sum) -ℤ to_z w64 (of_z w64 r) *ℤ pos 1) (kept_bits a small_a ∙ own_is)
+      ∙ ap (λ (z : ℤ). own s k *ℤ z -ℤ to_z w64 (of_z w64 r) *ℤ pos 1) (kept_bits p.sum (sum_small s b p is basic.within pair))
+      ∙ ap (λ (z : ℤ). own s k *ℤ p.sum -ℤ z *ℤ pos 1) (kept_bits r small_r ∙ right_is)
+      ∙ omega (arith, ints)
+      ∙ sym (mirror_right k e)
