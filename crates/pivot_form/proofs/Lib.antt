@@ -11,3 +11,4 @@ pub mod Lowest
 pub mod Swaps
 pub mod Exchange
 pub mod Shorts
+pub mod WholeRows

@@ -1,7 +1,6 @@
 -- What is kept by slots, as code reads it.
 use Rattle.std.proofs.Common.{ℕ, ◌≡◌, ◌≢◌, ◌<◌, ◌+◌, ◌⊎◌, ⊎_elim, arith, List, [], length, get_or, ap, sym, ◌∙◌, Some, subst}
 use Rattle.std.specs.Prelude.{ℤ, pos, ◌*ℤ◌, ◌-ℤ◌, unsigned_abs, Vec}
-use Rattle.std.specs.List.{All}
 use Rattle.std.specs.Int.RustNames.{FitsSigned}
 use mir.Syntax.{w64, w128}
 use mir.Val.{to_z, of_z}
@@ -12,12 +11,12 @@ use Rattle.exact_num.specs.declared.limits.TheConstants.{WIDE}
 use Rattle.pivot_form.specs.declared.places.Pair.{Pair}
 use Rattle.pivot_form.specs.declared.places.Place.{Place}
 use Rattle.pivot_form.specs.declared.places.Place.TheVariants.{Column, Kept, Paired}
-use Rattle.pivot_form.specs.Invariant.{row_lists}
+use Rattle.pivot_form.specs.Invariant.{IsEquation, row_lists}
 use Rattle.pivot_form.specs.Kept.{Store, cell, entry_at, entry_by, own, kept_right, kept_entry, entry_of, pair_entry, pair_of, place_of, right_by, right_of, short_row, variables_of, whole_row}
 use Rattle.pivot_form.specs.Shorts.{IsBasic, IsShort}
 use Rattle.pivot_form.proofs.Equations.{length-row_lists, row_lists-get}
 use Rattle.pivot_form.proofs.Unique.{find_row}
-use Rattle.pivot_form.proofs.Whole.{IsKeptRow, IsMirrorRow, IsPairRow, cell_at, height, kept_own, pair_first, pair_none, pair_second, row_at, row_entry_inside, row_entry_last, row_kind, width_at}
+use Rattle.pivot_form.proofs.Whole.{IsKeptRow, IsMirrorRow, IsPairRow, cell_at, height, kept_own, pair_first, pair_none, pair_second, row_at, row_entry_inside, row_entry_last, row_kind}
 
 pub column_inside : (s : Store) (v j : ℕ) → IsShort s → v < variables_of s → place_of s v ≡ Column j → j < s.width + 2
 column_inside s v j is l e = omega (arith, is.store.columns v j l e)
@@ -53,21 +52,24 @@ cast_fits x small = subst (FitsSigned w64) (sym (wide_bits x small)) (fits_signe
 pub cast_bits : (x : ℤ) → unsigned_abs x < WIDE → to_z w64 (of_z w64 (to_z w128 (of_z w128 x))) ≡ x
 cast_bits x small = ap (λ (y : ℤ). to_z w64 (of_z w64 y)) (wide_bits x small) ∙ kept_bits x small
 
--- an equation's entries are small
-equation : (s : Store) (b : ℕ) → IsShort s → IsBasic s b → All (λ x. unsigned_abs x < WIDE) (whole_row s b)
+-- an equation's entries are small, with no common divisor
+pub equation : (s : Store) (b : ℕ) → IsShort s → IsBasic s b → IsEquation (variables_of s) (whole_row s b)
 equation s b is basic =
     ⊎_elim
     (λ (found : (i : ℕ) × (i < length s.basis) × (get_or s.basis i 0 ≡ b)).
-      let e = is.form.equations found.0 [] (omega (arith, found.1, height s)) in
-      subst (All (λ x. unsigned_abs x < WIDE)) (row_at s found.0 found.1 ∙ ap (whole_row s) found.2) e.small)
+      subst (IsEquation (variables_of s)) (row_at s found.0 found.1 ∙ ap (whole_row s) found.2) (is.form.equations found.0 [] (omega (arith, found.1, height s))))
     (λ none. let c = is.store.other_place b basic.within none in absurd (basic.no_column c.0 c.1))
     (find_row (length s.basis) (λ i. get_or s.basis i 0) b)
 
 pub entry_small : (s : Store) (b v : ℕ) → IsShort s → IsBasic s b → v < variables_of s → unsigned_abs (entry_of s b v) < WIDE
-entry_small s b v is basic l = subst (λ (x : ℤ). unsigned_abs x < WIDE) (cell_at s b v (omega (arith, l)) ∙ row_entry_inside s b v l) (equation s b is basic v (pos 0) (omega (arith, l, width_at s b)))
+entry_small s b v is basic l =
+    let e = equation s b is basic in
+    subst (λ (x : ℤ). unsigned_abs x < WIDE) (cell_at s b v (omega (arith, l)) ∙ row_entry_inside s b v l) (e.small v (pos 0) (omega (arith, l, e.width)))
 
 pub right_small : (s : Store) (b : ℕ) → IsShort s → IsBasic s b → unsigned_abs (right_of s b) < WIDE
-right_small s b is basic = subst (λ (x : ℤ). unsigned_abs x < WIDE) (cell_at s b (variables_of s) (omega arith) ∙ row_entry_last s b) (equation s b is basic (variables_of s) (pos 0) (omega (arith, width_at s b)))
+right_small s b is basic =
+    let e = equation s b is basic in
+    subst (λ (x : ℤ). unsigned_abs x < WIDE) (cell_at s b (variables_of s) (omega arith) ∙ row_entry_last s b) (e.small (variables_of s) (pos 0) (omega (arith, e.width)))
 
 pub sum_small : (s : Store) (v : ℕ) (p : Pair) → IsShort s → v < variables_of s → pair_of s v ≡ Some p → unsigned_abs p.sum < WIDE
 sum_small s v p is l e = omega (arith, is.sums v p l e)

@@ -11,5 +11,6 @@ mod form;
 mod places;
 mod rows;
 mod short;
+mod whole_rows;
 
 pub use form::{Form, Wide};

@@ -24,7 +24,7 @@ fn combine(out: &mut [i128], p: i64, row: &[i64], q: i64, lead: &[i64])
 }
 
 /// The size of the first entry of 63 bits or more.
-fn find_large(row: &[i128]) -> Option<u128>
+pub(crate) fn find_large(row: &[i128]) -> Option<u128>
     ensures { result ≡ first_large row.now }
 {
     for x in row {
@@ -49,7 +49,7 @@ fn store(row: &mut [i64], wide: &[i128])
 
 /// Writes the row, cleared in the column by the lead and divided by its greatest common divisor. The fraction of the lead
 /// that is taken away is brought to lowest terms first, which makes the products smaller.
-fn clear(out: &mut [i128], row: &[i64], lead: &[i64], column: usize)
+pub(crate) fn clear(out: &mut [i128], row: &[i64], lead: &[i64], column: usize)
     requires same_row { length row.now ≡ length out.old }
     requires same_lead { length lead.now ≡ length out.old }
     requires within { column < length row.now }
