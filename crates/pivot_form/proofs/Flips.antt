@@ -96,9 +96,9 @@ module _ (s : Store) (b : ℕ) (p : Pair) (k : ℕ) (is : IsStore s) (within : b
       ⊎_elim
       (λ (f : v ≡ b). absurd (column_kept j k (sym e ∙ ap (place_of (flipped s b p k)) f ∙ at_basic)))
       (λ off. ⊎_elim
-        (λ (f : v ≡ p.other). absurd (column_paired j (sym e ∙ ap (place_of (flipped s b p k)) f ∙ at_other)))
-        (λ away. sym (elsewhere v off away) ∙ e)
-        (cases_eq v p.other))
+      (λ (f : v ≡ p.other). absurd (column_paired j (sym e ∙ ap (place_of (flipped s b p k)) f ∙ at_other)))
+      (λ away. sym (elsewhere v off away) ∙ e)
+      (cases_eq v p.other))
       (cases_eq v b)
 
   column_after : (v j : ℕ) → place_of s v ≡ Column j → place_of (flipped s b p k) v ≡ Column j
@@ -110,9 +110,9 @@ module _ (s : Store) (b : ℕ) (p : Pair) (k : ℕ) (is : IsStore s) (within : b
       ⊎_elim
       (λ (f : v ≡ b). inl (f, kept_same l k (sym e ∙ ap (place_of (flipped s b p k)) f ∙ at_basic)))
       (λ off. ⊎_elim
-        (λ (f : v ≡ p.other). absurd (kept_paired l (sym e ∙ ap (place_of (flipped s b p k)) f ∙ at_other)))
-        (λ away. inr (off, away, sym (elsewhere v off away) ∙ e))
-        (cases_eq v p.other))
+      (λ (f : v ≡ p.other). absurd (kept_paired l (sym e ∙ ap (place_of (flipped s b p k)) f ∙ at_other)))
+      (λ away. inr (off, away, sym (elsewhere v off away) ∙ e))
+      (cases_eq v p.other))
       (cases_eq v b)
 
   not_slot : (v l : ℕ) → v < variables_of s → v ≢ p.other → place_of s v ≡ Kept l → l ≢ k
@@ -122,13 +122,13 @@ module _ (s : Store) (b : ℕ) (p : Pair) (k : ℕ) (is : IsStore s) (within : b
   one v u l h i e f =
       ⊎_elim
       (λ (mine : (v ≡ b) × (l ≡ k)). ⊎_elim
-        (λ (yours : (u ≡ b) × (l ≡ k)). mine.0 ∙ sym yours.0)
-        (λ (theirs : (u ≢ b) × (u ≢ p.other) × (place_of s u ≡ Kept l)). absurd (not_slot u l i theirs.1 theirs.2 mine.1))
-        (kept_before u l i f))
+      (λ (yours : (u ≡ b) × (l ≡ k)). mine.0 ∙ sym yours.0)
+      (λ (theirs : (u ≢ b) × (u ≢ p.other) × (place_of s u ≡ Kept l)). absurd (not_slot u l i theirs.1 theirs.2 mine.1))
+      (kept_before u l i f))
       (λ (mine : (v ≢ b) × (v ≢ p.other) × (place_of s v ≡ Kept l)). ⊎_elim
-        (λ (yours : (u ≡ b) × (l ≡ k)). absurd (not_slot v l h mine.1 mine.2 yours.1))
-        (λ (theirs : (u ≢ b) × (u ≢ p.other) × (place_of s u ≡ Kept l)). is.one_kept v u l h i mine.2 theirs.2)
-        (kept_before u l i f))
+      (λ (yours : (u ≡ b) × (l ≡ k)). absurd (not_slot v l h mine.1 mine.2 yours.1))
+      (λ (theirs : (u ≢ b) × (u ≢ p.other) × (place_of s u ≡ Kept l)). is.one_kept v u l h i mine.2 theirs.2)
+      (kept_before u l i f))
       (kept_before v l h e)
 
   paired_before : (v : ℕ) → place_of (flipped s b p k) v ≡ Paired → v ≢ p.other → place_of s v ≡ Paired
@@ -146,10 +146,10 @@ module _ (s : Store) (b : ℕ) (p : Pair) (k : ℕ) (is : IsStore s) (within : b
   other_unpaired v q h e f off apart z =
       ⊎_elim
       (λ (g : q.other ≡ p.other).
-        let theirs = is.pairs v q h e in
-        let same : Some (record { other = v; sum = q.sum }) ≡ Some (record { other = b; sum = p.sum }) = sym theirs.2 ∙ ap (pair_of s) g ∙ good.2 in
-        let whole : record { other = v; sum = q.sum } ≡ record { other = b; sum = p.sum } = cc in
-        off (ap (λ (x : Pair). x.other) whole))
+      let theirs = is.pairs v q h e in
+      let same : Some (record { other = v; sum = q.sum }) ≡ Some (record { other = b; sum = p.sum }) = sym theirs.2 ∙ ap (pair_of s) g ∙ good.2 in
+      let whole : record { other = v; sum = q.sum } ≡ record { other = b; sum = p.sum } = cc in
+      off (ap (λ (x : Pair). x.other) whole))
       (λ away. apart (paired_before q.other z away))
       (cases_eq q.other p.other)
 
@@ -168,9 +168,9 @@ module _ (s : Store) (b : ℕ) (p : Pair) (k : ℕ) (is : IsStore s) (within : b
   flipped_store = record {
     all_pairs = is.all_pairs ∙ sym variables;
     widths = λ l h. ⊎_elim
-      (λ (e : l ≡ k). ap (λ (x : ℕ). length (short_row (flipped s b p k) x)) e ∙ ap length row_here ∙ mirrored_width s.width p.sum (short_row s k) long)
-      (λ off. ap length (row_off l off) ∙ is.widths l (omega (arith, h, rows)))
-      (cases_eq l k);
+        (λ (e : l ≡ k). ap (λ (x : ℕ). length (short_row (flipped s b p k) x)) e ∙ ap length row_here ∙ mirrored_width s.width p.sum (short_row s k) long)
+        (λ off. ap length (row_off l off) ∙ is.widths l (omega (arith, h, rows)))
+        (cases_eq l k);
     basics = λ i l. omega (arith, is.basics i l, variables);
     one_basic = is.one_basic;
     basic_place = λ i j l e. is.basic_place i j l (column_before (get_or s.basis i 0) j e);
@@ -179,50 +179,53 @@ module _ (s : Store) (b : ℕ) (p : Pair) (k : ℕ) (is : IsStore s) (within : b
     one_column = λ v u j l m e f. is.one_column v u j (omega (arith, l, variables)) (omega (arith, m, variables)) (column_before v j e) (column_before u j f);
     all_columns = λ j l. let found = is.all_columns j l in (found.0, omega (arith, found.1, variables), column_after found.0 j found.2);
     kept = λ v l h e. ⊎_elim
-      (λ (mine : (v ≡ b) × (l ≡ k)). omega (arith, mine.1, slot, rows))
-      (λ (theirs : (v ≢ b) × (v ≢ p.other) × (place_of s v ≡ Kept l)). omega (arith, rows, is.kept v l (omega (arith, h, variables)) theirs.2))
-      (kept_before v l (omega (arith, h, variables)) e);
+        (λ (mine : (v ≡ b) × (l ≡ k)). omega (arith, mine.1, slot, rows))
+        (λ (theirs : (v ≢ b) × (v ≢ p.other) × (place_of s v ≡ Kept l)). omega (arith, rows, is.kept v l (omega (arith, h, variables)) theirs.2))
+        (kept_before v l (omega (arith, h, variables)) e);
     one_kept = λ v u l h i e f. one v u l (omega (arith, h, variables)) (omega (arith, i, variables)) e f;
     all_kept = λ l h. ⊎_elim
-      (λ (e : l ≡ k). ⊎_elim
+        (λ (e : l ≡ k). ⊎_elim
         (λ (found : (i : ℕ) × (i < length s.basis) × (get_or s.basis i 0 ≡ b)). (found.0, found.1, ap (place_of (flipped s b p k)) found.2 ∙ at_basic ∙ ap Kept (sym e)))
         (λ none. let column = is.other_place b within none in absurd (column_paired column.0 (sym column.1 ∙ paired)))
         (find_row (length s.basis) (λ i. get_or s.basis i 0) b))
-      (λ off. let found = is.all_kept l (omega (arith, h, rows)) in
-        (found.0, found.1, elsewhere (get_or s.basis found.0 0)
-          (λ f. kept_paired l (sym found.2 ∙ ap (place_of s) f ∙ paired))
-          (λ f. off (kept_same l k (sym found.2 ∙ ap (place_of s) f ∙ other))) ∙ found.2))
-      (cases_eq l k);
+        (λ off. let found = is.all_kept l (omega (arith, h, rows)) in (
+          found.0,
+          found.1,
+          elsewhere (get_or s.basis found.0 0)
+              (λ f. kept_paired l (sym found.2 ∙ ap (place_of s) f ∙ paired))
+              (λ f. off (kept_same l k (sym found.2 ∙ ap (place_of s) f ∙ other))) ∙ found.2,
+        ))
+        (cases_eq l k);
     pairs = λ v q h e. let theirs = is.pairs v q (omega (arith, h, variables)) e in (omega (arith, theirs.0, variables), theirs.1, theirs.2);
     paired = λ v h e. ⊎_elim
-      (λ (f : v ≡ p.other). (record { other = b; sum = p.sum }, ap (pair_of s) f ∙ good.2, basic_unpaired))
-      (λ away. ⊎_elim
+        (λ (f : v ≡ p.other). (record { other = b; sum = p.sum }, ap (pair_of s) f ∙ good.2, basic_unpaired))
+        (λ away. ⊎_elim
         (λ (f : v ≡ b). absurd (basic_unpaired (ap (place_of (flipped s b p k)) (sym f) ∙ e)))
         (λ off. let found = is.paired v (omega (arith, h, variables)) (paired_before v e away) in
-          (found.0, found.1, other_unpaired v found.0 (omega (arith, h, variables)) found.1 (paired_before v e away) off found.2))
+        (found.0, found.1, other_unpaired v found.0 (omega (arith, h, variables)) found.1 (paired_before v e away) off found.2))
         (cases_eq v b))
-      (cases_eq v p.other);
+        (cases_eq v p.other);
     one_paired = λ v q h e apart. ⊎_elim
-      (λ (f : v ≡ b). let same : Some q ≡ Some p = sym e ∙ ap (pair_of s) f ∙ pair in let whole : q ≡ p = cc in ap (λ (x : Pair). place_of (flipped s b p k) x.other) whole ∙ at_other)
-      (λ off. ⊎_elim
+        (λ (f : v ≡ b). let same : Some q ≡ Some p = sym e ∙ ap (pair_of s) f ∙ pair in let whole : q ≡ p = cc in ap (λ (x : Pair). place_of (flipped s b p k) x.other) whole ∙ at_other)
+        (λ off. ⊎_elim
         (λ (f : v ≡ p.other). absurd (apart (ap (place_of (flipped s b p k)) f ∙ at_other)))
         (λ away.
-          let before : place_of s q.other ≡ Paired = is.one_paired v q (omega (arith, h, variables)) e (λ z. apart (elsewhere v off away ∙ z)) in
-          elsewhere q.other
-            (λ f. let theirs = is.pairs v q (omega (arith, h, variables)) e in
-              let same : Some (record { other = v; sum = q.sum }) ≡ Some p = sym theirs.2 ∙ ap (pair_of s) f ∙ pair in
-              let whole : record { other = v; sum = q.sum } ≡ p = cc in away (ap (λ (x : Pair). x.other) whole))
-            (λ f. kept_paired k (sym other ∙ ap (place_of s) (sym f) ∙ before)) ∙ before)
+        let before : place_of s q.other ≡ Paired = is.one_paired v q (omega (arith, h, variables)) e (λ z. apart (elsewhere v off away ∙ z)) in
+        elsewhere q.other
+        (λ f. let theirs = is.pairs v q (omega (arith, h, variables)) e in
+        let same : Some (record { other = v; sum = q.sum }) ≡ Some p = sym theirs.2 ∙ ap (pair_of s) f ∙ pair in
+        let whole : record { other = v; sum = q.sum } ≡ p = cc in away (ap (λ (x : Pair). x.other) whole))
+        (λ f. kept_paired k (sym other ∙ ap (place_of s) (sym f) ∙ before)) ∙ before)
         (cases_eq v p.other))
-      (cases_eq v b);
+        (cases_eq v b);
     positive = λ l h. ⊎_elim
-      (λ (e : l ≡ k). subst (λ (x : ℤ). pos 0 <ℤ x) (sym (ap (λ (x : ℕ). own (flipped s b p k) x) e ∙ ap (λ (xs : List ℤ). get_or xs s.width (pos 0)) row_here ∙ mirrored_own s.width p.sum (short_row s k) long)) (is.positive k slot))
-      (λ off. subst (λ (xs : List ℤ). pos 0 <ℤ get_or xs s.width (pos 0)) (sym (row_off l off)) (is.positive l (omega (arith, h, rows))))
-      (cases_eq l k);
+        (λ (e : l ≡ k). subst (λ (x : ℤ). pos 0 <ℤ x) (sym (ap (λ (x : ℕ). own (flipped s b p k) x) e ∙ ap (λ (xs : List ℤ). get_or xs s.width (pos 0)) row_here ∙ mirrored_own s.width p.sum (short_row s k) long)) (is.positive k slot))
+        (λ off. subst (λ (xs : List ℤ). pos 0 <ℤ get_or xs s.width (pos 0)) (sym (row_off l off)) (is.positive l (omega (arith, h, rows))))
+        (cases_eq l k);
     primitive = λ l h. ⊎_elim
-      (λ (e : l ≡ k). subst IsPrimitive (sym (ap (short_row (flipped s b p k)) e ∙ row_here)) lowest)
-      (λ off. subst IsPrimitive (sym (row_off l off)) (is.primitive l (omega (arith, h, rows))))
-      (cases_eq l k);
+        (λ (e : l ≡ k). subst IsPrimitive (sym (ap (short_row (flipped s b p k)) e ∙ row_here)) lowest)
+        (λ off. subst IsPrimitive (sym (row_off l off)) (is.primitive l (omega (arith, h, rows))))
+        (cases_eq l k);
   }
 
   -- ---- the slot keeps the equation of b now
@@ -252,7 +255,7 @@ module _ (s : Store) (b : ℕ) (p : Pair) (k : ℕ) (is : IsStore s) (within : b
       let none : pair_entry b p.other v ≡ pos 0 = pair_none b p.other v off away in
       let now : kept_entry (flipped s b p k) k v ≡ pos 0 = ap (entry_at (flipped s b p k) k) (elsewhere v off away ∙ e) ∙ not_kept (flipped s b p k) k (Kept l) (λ f. apart (kept_same l k f)) (λ i f. column_kept i l (sym f)) in
       let before_it : entry_of s b v ≡ own s k *ℤ pos 0 -ℤ pos 0 = mirror_row.entries v ∙ ap (λ (x : ℤ). own s k *ℤ x -ℤ kept_entry s k v) none
-        ∙ ap (λ (x : ℤ). own s k *ℤ pos 0 -ℤ x) (ap (entry_at s k) e ∙ not_kept s k (Kept l) (λ f. apart (kept_same l k f)) (λ i f. column_kept i l (sym f))) in
+      ∙ ap (λ (x : ℤ). own s k *ℤ pos 0 -ℤ x) (ap (entry_at s k) e ∙ not_kept s k (Kept l) (λ f. apart (kept_same l k f)) (λ i f. column_kept i l (sym f))) in
       omega (arith, ints, now, before_it)
   flip_place v h off away Paired e =
       let none : pair_entry b p.other v ≡ pos 0 = pair_none b p.other v off away in
@@ -279,9 +282,9 @@ module _ (s : Store) (b : ℕ) (p : Pair) (k : ℕ) (is : IsStore s) (within : b
       ⊎_elim
       (λ (e : v ≡ b). ap (kept_entry (flipped s b p k) k) e ∙ flip_basic ∙ ap (entry_of s b) (sym e))
       (λ off. ⊎_elim
-        (λ (e : v ≡ p.other). ap (kept_entry (flipped s b p k) k) e ∙ flip_other ∙ ap (entry_of s b) (sym e))
-        (λ away. flip_place v h off away (place_of s v) refl)
-        (cases_eq v p.other))
+      (λ (e : v ≡ p.other). ap (kept_entry (flipped s b p k) k) e ∙ flip_other ∙ ap (entry_of s b) (sym e))
+      (λ away. flip_place v h off away (place_of s v) refl)
+      (cases_eq v p.other))
       (cases_eq v b)
 
   flip_right : kept_right (flipped s b p k) k ≡ right_of s b
@@ -292,12 +295,12 @@ module _ (s : Store) (b : ℕ) (p : Pair) (k : ℕ) (is : IsStore s) (within : b
   other_place_entry l v h m apart =
       ⊎_elim
       (λ (e : v ≡ b). ap (kept_entry (flipped s b p k) l) e ∙ ap (entry_at (flipped s b p k) l) at_basic ∙ not_kept (flipped s b p k) l (Kept k) (λ f. apart (sym (kept_same k l f))) (λ i f. column_kept i k (sym f))
-        ∙ sym (ap (kept_entry s l) e ∙ ap (entry_at s l) paired))
+      ∙ sym (ap (kept_entry s l) e ∙ ap (entry_at s l) paired))
       (λ off. ⊎_elim
-        (λ (e : v ≡ p.other). ap (kept_entry (flipped s b p k) l) e ∙ ap (entry_at (flipped s b p k) l) at_other
-          ∙ sym (ap (kept_entry s l) e ∙ ap (entry_at s l) other ∙ not_kept s l (Kept k) (λ f. apart (sym (kept_same k l f))) (λ i f. column_kept i k (sym f))))
-        (λ away. ap (entry_at (flipped s b p k) l) (elsewhere v off away) ∙ same_row (place_of s v))
-        (cases_eq v p.other))
+      (λ (e : v ≡ p.other). ap (kept_entry (flipped s b p k) l) e ∙ ap (entry_at (flipped s b p k) l) at_other
+      ∙ sym (ap (kept_entry s l) e ∙ ap (entry_at s l) other ∙ not_kept s l (Kept k) (λ f. apart (sym (kept_same k l f))) (λ i f. column_kept i k (sym f))))
+      (λ away. ap (entry_at (flipped s b p k) l) (elsewhere v off away) ∙ same_row (place_of s v))
+      (cases_eq v p.other))
       (cases_eq v b)
     where
       same_row : (q : Place) → entry_at (flipped s b p k) l q ≡ entry_at s l q
@@ -310,11 +313,11 @@ module _ (s : Store) (b : ℕ) (p : Pair) (k : ℕ) (is : IsStore s) (within : b
       let kept = holds_kept s y d is holds in
       kept_holds (flipped s b p k) y d flipped_store (record {
         slots = λ l h. subst (λ (n : ℕ). sum_from n 0 (λ v. kept_entry (flipped s b p k) l v *ℤ y v) ≡ kept_right (flipped s b p k) l *ℤ d) (sym variables)
-          (⊎_elim
+            (⊎_elim
             (λ (e : l ≡ k). subst (λ (x : ℕ). sum_from (variables_of s) 0 (λ v. kept_entry (flipped s b p k) x v *ℤ y v) ≡ kept_right (flipped s b p k) x *ℤ d) (sym e) (at_slot holds))
             (λ apart. let m : l < length s.rows = omega (arith, h, rows) in
-              sum_from-same (variables_of s) 0 _ _ (λ v i j. ap (λ (x : ℤ). x *ℤ y v) (other_place_entry l v (omega (arith, j)) m apart))
-              ∙ kept.slots l m ∙ ap (λ (x : ℤ). x *ℤ d) (sym (ap (λ (xs : List ℤ). get_or xs (s.width + 1) (pos 0)) (row_off l apart))))
+            sum_from-same (variables_of s) 0 _ _ (λ v i j. ap (λ (x : ℤ). x *ℤ y v) (other_place_entry l v (omega (arith, j)) m apart))
+            ∙ kept.slots l m ∙ ap (λ (x : ℤ). x *ℤ d) (sym (ap (λ (xs : List ℤ). get_or xs (s.width + 1) (pos 0)) (row_off l apart))))
             (cases_eq l k));
         pairs = λ v q h e. kept.pairs v q (omega (arith, h, variables)) e;
       })
@@ -323,9 +326,9 @@ module _ (s : Store) (b : ℕ) (p : Pair) (k : ℕ) (is : IsStore s) (within : b
       at_slot holds' =
           ⊎_elim
           (λ (found : (i : ℕ) × (i < length s.basis) × (get_or s.basis i 0 ≡ b)).
-            sum_from-same (variables_of s) 0 _ _ (λ v i j. ap (λ (x : ℤ). x *ℤ y v) (flip_entry v (omega (arith, j))))
-            ∙ subst (HoldsOf s y d) found.2 (row_holds s y d found.0 found.1 holds')
-            ∙ ap (λ (x : ℤ). x *ℤ d) (sym flip_right))
+          sum_from-same (variables_of s) 0 _ _ (λ v i j. ap (λ (x : ℤ). x *ℤ y v) (flip_entry v (omega (arith, j))))
+          ∙ subst (HoldsOf s y d) found.2 (row_holds s y d found.0 found.1 holds')
+          ∙ ap (λ (x : ℤ). x *ℤ d) (sym flip_right))
           (λ none. let column = is.other_place b within none in absurd (column_paired column.0 (sym column.1 ∙ paired)))
           (find_row (length s.basis) (λ i. get_or s.basis i 0) b)
 

@@ -13,3 +13,4 @@ pub mod Exchange
 pub mod Cleared
 pub mod Flips
 pub mod Shorts
+pub mod WholeRows

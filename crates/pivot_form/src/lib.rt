@@ -7,10 +7,12 @@
 #![tactic(auto)]
 
 mod clearing;
+mod exchanges;
 mod first;
 mod form;
 mod places;
 mod rows;
 mod short;
+mod whole_rows;
 
 pub use form::{Form, Wide};

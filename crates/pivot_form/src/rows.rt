@@ -24,7 +24,7 @@ pub(crate) fn combine(out: &mut [i128], p: i64, row: &[i64], q: i64, lead: &[i64
 }
 
 /// The size of the first entry of 63 bits or more.
-fn find_large(row: &[i128]) -> Option<u128>
+pub(crate) fn find_large(row: &[i128]) -> Option<u128>
     ensures { result ≡ first_large row.now }
 {
     for x in row {
@@ -65,7 +65,7 @@ pub(crate) fn clear_by(out: &mut [i128], p: i64, row: &[i64], q: i64, lead: &[i6
 }
 
 /// Writes the row, cleared in the column by the lead and divided by its greatest common divisor.
-fn clear(out: &mut [i128], row: &[i64], lead: &[i64], column: usize)
+pub(crate) fn clear(out: &mut [i128], row: &[i64], lead: &[i64], column: usize)
     requires same_row { length row.now ≡ length out.old }
     requires same_lead { length lead.now ≡ length out.old }
     requires within { column < length row.now }
@@ -147,7 +147,7 @@ pub(crate) fn turn(lead: &mut [i64], row: &[i64], column: usize)
 }
 
 /// Turns the sign of each entry.
-fn negate(row: &mut [i64])
+pub(crate) fn negate(row: &mut [i64])
     requires { All (λ x. unsigned_abs x < WIDE) row.old }
     ensures { row.new ≡ map neg_ℤ row.old }
 {
