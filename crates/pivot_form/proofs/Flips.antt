@@ -63,13 +63,13 @@ module _ (s : Store) (b : ℕ) (p : Pair) (k : ℕ) (is : IsStore s) (within : b
   slot : k < length s.rows
   slot = is.kept p.other k good.0 other
 
-  variables : variables_of (flipped s b p k) ≡ variables_of s
+  pub variables : variables_of (flipped s b p k) ≡ variables_of s
   variables = length-set (set s.places b (Kept k)) p.other Paired ∙ length-set s.places b (Kept k)
 
   rows : length (flipped s b p k).rows ≡ length s.rows
   rows = length-set s.rows k (mirrored s.width p.sum (short_row s k))
 
-  at_basic : place_of (flipped s b p k) b ≡ Kept k
+  pub at_basic : place_of (flipped s b p k) b ≡ Kept k
   at_basic = get_or-set_other (set s.places b (Kept k)) p.other b Paired Paired (λ e. good.1 (sym e)) ∙ get_or-set_same s.places b (Kept k) Paired within
 
   at_other : place_of (flipped s b p k) p.other ≡ Paired

@@ -12,5 +12,6 @@ pub mod Swaps
 pub mod Exchange
 pub mod Cleared
 pub mod Flips
+pub mod Steps
 pub mod Shorts
 pub mod WholeRows

@@ -175,3 +175,11 @@ flipped s b pair k = record {
   pairs = s.pairs;
   rows = slice_set s.rows k (mirrored s.width pair.sum (short_row s k));
 }
+
+-- ---- the lead of a pair's equation
+-- w columns, of which the one with the number j has the entry 1, the entry 1 and the sum
+abbrev pub pair_lead : ℕ → ℕ → ℤ → ℕ → ℤ
+pair_lead w j sum i = if i == j then pos 1 else (if i == w then pos 1 else (if i == w + 1 then sum else pos 0))
+
+abbrev pub pair_row : ℕ → ℕ → ℤ → List ℤ
+pair_row w j sum = map (pair_lead w j sum) (range_with_len 0 (w + 2))
