@@ -45,6 +45,18 @@ flipped_short s b p k is within paired pair other =
       form = subst IsForm same is.form;
     }, sym same, inl (λ e. let f : Kept k ≡ Paired = sym here ∙ e in cc))
 
+-- where the other one isn't kept it is nonbasic
+pub stands_alone : (s : Store) (b : ℕ) (p : Pair) → IsShort s → b < variables_of s → place_of s b ≡ Paired → pair_of s b ≡ Some p → ((k : ℕ) → place_of s p.other ≢ Kept k) → StandsAlone s b
+stands_alone s b p is within paired pair not_kept = inr (p, pair, by (place_of s p.other) refl)
+  where
+    by : (q : Place) → place_of s p.other ≡ q → (j : ℕ) × (place_of s p.other ≡ Column j)
+    by (Column j) e = (j, e)
+    by (Kept k) e = absurd (not_kept k e)
+    by Paired e = let found = is.store.paired b within paired in
+      let same : Some found.0 ≡ Some p = sym found.1 ∙ pair in
+      let whole : found.0 ≡ p = cc in
+      absurd (found.2 (ap (λ (x : Pair). place_of s x.other) whole ∙ e))
+
 -- ---- an exchange
 exchanged_variables : (s : Store) (r b e j : ℕ) (lead : List ℤ) (slot : Option ℕ) → variables_of (exchanged s r b e j lead slot) ≡ variables_of s
 exchanged_variables s r b e j lead slot = length-set (set s.places b (Column j)) e (place_of s b) ∙ length-set s.places b (Column j)

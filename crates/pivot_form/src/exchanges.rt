@@ -3,8 +3,8 @@ ghost use Rattle.std.specs.Prelude.{◌≡◌, ◌≢◌, ◌<◌, ◌+◌, ◌*
 ghost use Rattle.std.specs.List.{All};
 ghost use Rattle.row_program.specs.Forms.{first_large};
 ghost use Rattle.pivot_form.specs.Invariant.{IsEquation, row_lists};
-ghost use Rattle.pivot_form.specs.Kept.{exchanged, flipped, mirrored, moved, next_by, own, kept_right, pair_of, place_of, variables_of};
-ghost use Rattle.pivot_form.specs.Shorts.{IsShort, store_of};
+ghost use Rattle.pivot_form.specs.Kept.{exchanged, flipped, mirrored, pair_of, place_of, table_of, variables_of};
+ghost use Rattle.pivot_form.specs.Shorts.{IsBasic, IsShort, StandsAlone, store_of};
 ghost use Rattle.pivot_form.specs.declared.places.Place.TheVariants.{Kept, Paired};
 
 use crate::clearing::clear_slots;
@@ -86,4 +86,23 @@ fn exchange(
     short.places[basic] = Place::Column(column);
     short.places[entering] = place;
     short.basics[row] = entering;
+}
+
+/// Keeps the equation of a basic variable, where its pair's other one is basic too.
+#[tactic(auto, using(crate::proofs::Steps::flipped_short))]
+fn unpair(short: &mut Short, basic: usize)
+    requires short { IsShort (store_of short.old) }
+    requires basic { IsBasic (store_of short.old) basic }
+    ensures short { IsShort (store_of short.new) }
+    ensures same { table_of (store_of short.new) ≡ table_of (store_of short.old) }
+    ensures width { short.new.width ≡ short.old.width }
+    ensures basic { IsBasic (store_of short.new) basic }
+    ensures alone { StandsAlone (store_of short.new) basic }
+{
+    let (Place::Paired, Some(pair)) = (short.places[basic], short.pairs[basic]) else {
+        return;
+    };
+    if let Place::Kept(slot) = short.places[pair.other] {
+        flip(short, basic, pair, slot);
+    }
 }
