@@ -13,9 +13,9 @@ use Rattle.pivot_form.specs.declared.places.Pair.{Pair}
 use Rattle.pivot_form.specs.declared.places.Place.{Place}
 use Rattle.pivot_form.specs.declared.places.Place.TheVariants.{Column, Kept, Paired}
 use Rattle.pivot_form.specs.Invariant.{IsEquation, IsForm}
-use Rattle.pivot_form.specs.Kept.{Store, cell, entry_at, entry_by, entry_of, exchanged, flipped, kept_entry, own, pair_entry, pair_lead, pair_of, pair_row, place_of, right_by, right_of, short_row, table_of, variables_of}
+use Rattle.pivot_form.specs.Kept.{Store, cell, entry_at, entry_by, entry_of, exchanged, flipped, kept_entry, next_short, own, pair_entry, pair_lead, pair_of, pair_row, place_of, right_by, right_of, short_row, table_of, variables_of}
 use Rattle.pivot_form.specs.Shorts.{IsBasic, IsShort, StandsAlone}
-use Rattle.pivot_form.proofs.Equations.{IsTurned, none_from_small, turned_by}
+use Rattle.pivot_form.proofs.Equations.{IsTurned, length-map_from, none_from_small, turned_by}
 use Rattle.pivot_form.proofs.NextForm.{next_is_form}
 use Rattle.pivot_form.proofs.Whole.{entry_is, height, kept_own, pair_first, pair_none, pair_second}
 use Rattle.pivot_form.proofs.Shorts.{cell_small, pair_at, pair_right}
@@ -143,3 +143,50 @@ pair_may s b e j p is basic paired pair within column i other nonzero =
 
     lead_right : (w j : ℕ) (sum : ℤ) → j < w → pair_lead w j sum (w + 1) ≡ sum
     lead_right w j sum l = let apart : w + 1 ≢ j = λ f. omega (arith, f, l) in let off : w + 1 ≢ w = λ f. omega (arith, f) in grind (arith, nat_tests)
+
+-- ---- a pivot at a row, whose basic variable's equation is kept in the slot k
+module _ (s : Store) (r e j : ℕ) (is : IsShort s) (row : r < length s.basis) (within : e < variables_of s) (column : place_of s e ≡ Column j) (nonzero : entry (table_of s) r e ≢ pos 0) (narrow : first_large_of (next_form (table_of s) r e).rows ≡ None) where
+  row_basic : IsBasic s (get_or s.basis r 0)
+  row_basic = record { within = is.store.basics r row; no_column = λ i. is.store.basic_place r i row }
+
+  row_entry : entry_of s (get_or s.basis r 0) e ≢ pos 0
+  row_entry f = nonzero (entry_is s r e row within ∙ f)
+
+  pub column_within : j < s.width
+  column_within = is.store.columns e j within column
+
+  module _ (k : ℕ) (kept : place_of s (get_or s.basis r 0) ≡ Kept k) where
+    pub kept_slot : k < length s.rows
+    kept_slot = is.store.kept (get_or s.basis r 0) k row_basic.within kept
+
+    pub kept_nonzero : get_or (short_row s k) j (pos 0) ≢ pos 0
+    kept_nonzero f = row_entry (ap (λ (x : Place). entry_by s (get_or s.basis r 0) x e) kept ∙ ap (entry_at s k) column ∙ f)
+
+    pub kept_step : IsShort (exchanged s r (get_or s.basis r 0) e j (turned j (short_row s k)) (Some k)) × (table_of (exchanged s r (get_or s.basis r 0) e j (turned j (short_row s k)) (Some k)) ≡ next_form (table_of s) r e)
+    kept_step =
+        let lead = kept_lead s (get_or s.basis r 0) e j k is row_basic kept within column row_entry in
+        exchanged_short s r (get_or s.basis r 0) e j lead.0 (turned j (short_row s k)) (Some k) is (record {
+          row = row;
+          basic = refl;
+          entering = within;
+          column = column;
+          lead_is = lead.1;
+          slot_is = inl (k, refl, kept);
+        }) nonzero narrow
+
+  module _ (p : Pair) (i : ℕ) (paired : place_of s (get_or s.basis r 0) ≡ Paired) (pair : pair_of s (get_or s.basis r 0) ≡ Some p) (other : place_of s p.other ≡ Column i) where
+    pub pair_step : IsShort (exchanged s r (get_or s.basis r 0) e j (pair_row s.width j p.sum) None) × (table_of (exchanged s r (get_or s.basis r 0) e j (pair_row s.width j p.sum) None) ≡ next_form (table_of s) r e)
+    pair_step =
+        let may = pair_may s (get_or s.basis r 0) e j p is row_basic paired pair within column i other row_entry in
+        exchanged_short s r (get_or s.basis r 0) e j (pos 1) (pair_row s.width j p.sum) None is (record {
+          row = row;
+          basic = refl;
+          entering = within;
+          column = column;
+          lead_is = may.1;
+          slot_is = inr (refl, paired, (p, pair, may.0));
+        }) nonzero narrow
+
+-- what the slots keep after an exchange is small
+pub exchanged_narrow : (s : Store) (r b e j : ℕ) (lead : List ℤ) (slot : Option ℕ) (k : ℕ) → IsShort (exchanged s r b e j lead slot) → k < length s.rows → first_large (short_row (exchanged s r b e j lead slot) k) ≡ None
+exchanged_narrow s r b e j lead slot k is l = row_narrow (exchanged s r b e j lead slot) k is (omega (arith, l, length-map_from (next_short s.width j lead slot) 0 s.rows))

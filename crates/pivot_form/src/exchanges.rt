@@ -1,15 +1,15 @@
 // Pivots of what is kept by slots and pairs.
 ghost use Rattle.std.specs.Prelude.{◌≡◌, ◌≢◌, ◌<◌, ◌+◌, ◌*ℤ◌, ◌-ℤ◌, ◌<ℤ◌, ℕ, pos, unsigned_abs, length, None, Some, [], slice_index, slice_index_or};
 ghost use Rattle.std.specs.List.{All};
-ghost use Rattle.row_program.specs.Forms.{first_large};
+ghost use Rattle.row_program.specs.Forms.{entry, first_large, first_large_of, next_form};
 ghost use Rattle.pivot_form.specs.Invariant.{IsEquation, row_lists};
 ghost use Rattle.pivot_form.specs.Kept.{exchanged, flipped, mirrored, pair_of, place_of, table_of, variables_of};
 ghost use Rattle.pivot_form.specs.Shorts.{IsBasic, IsShort, StandsAlone, store_of};
-ghost use Rattle.pivot_form.specs.declared.places.Place.TheVariants.{Kept, Paired};
+ghost use Rattle.pivot_form.specs.declared.places.Place.TheVariants.{Column, Kept, Paired};
 
 use crate::clearing::clear_slots;
 use crate::places::{Pair, Place};
-use crate::rows::negate;
+use crate::rows::{negate, turn};
 use crate::short::Short;
 use exact_num::{WIDE, cross};
 
@@ -105,4 +105,31 @@ fn unpair(short: &mut Short, basic: usize)
     if let Place::Kept(slot) = short.places[pair.other] {
         flip(short, basic, pair, slot);
     }
+}
+
+/// The next form, where the equation of the row's basic variable is kept in this slot.
+fn pivot_kept(
+    short: &mut Short,
+    row: usize,
+    slot: usize,
+    entering: usize,
+    column: usize,
+    lead: &mut [i64],
+    scratch: &mut [i128],
+)
+    requires short { IsShort (store_of short.old) }
+    requires row { row < length (store_of short.old).basis }
+    requires entering { entering < variables_of (store_of short.old) }
+    requires column { place_of (store_of short.old) entering ≡ Column column }
+    requires kept { place_of (store_of short.old) (slice_index (store_of short.old).basis row) ≡ Kept slot }
+    requires nonzero { entry (table_of (store_of short.old)) row entering ≢ pos 0 }
+    requires narrow { first_large_of (next_form (table_of (store_of short.old)) row entering).rows ≡ None }
+    requires same_lead { length lead.old ≡ short.old.width + 2 }
+    requires same_scratch { length scratch.old ≡ short.old.width + 2 }
+    ensures short { IsShort (store_of short.new) }
+    ensures value { table_of (store_of short.new) ≡ next_form (table_of (store_of short.old)) row entering }
+    ensures width { short.new.width ≡ short.old.width }
+{
+    turn(lead, short.rows[slot].as_slice(), column);
+    exchange(short, row, entering, column, Some(slot), lead, scratch);
 }
