@@ -1,9 +1,9 @@
 // Pivots of what is kept by slots and pairs.
 ghost use Rattle.std.specs.Prelude.{◌≡◌, ◌≢◌, ◌<◌, ◌+◌, ◌*ℤ◌, ◌-ℤ◌, ◌<ℤ◌, ℕ, pos, unsigned_abs, length, None, Some, [], slice_index, slice_index_or};
 ghost use Rattle.std.specs.List.{All};
-ghost use Rattle.row_program.specs.Forms.{entry, first_large, first_large_of, next_form};
+ghost use Rattle.row_program.specs.Forms.{IsNonbasic, entry, first_large, first_large_of, next_form, tableau};
 ghost use Rattle.pivot_form.specs.Invariant.{IsEquation, row_lists};
-ghost use Rattle.pivot_form.specs.Kept.{exchanged, flipped, mirrored, pair_of, place_of, table_of, variables_of};
+ghost use Rattle.pivot_form.specs.Kept.{exchanged, flipped, mirrored, pair_of, pair_row, place_of, table_of, variables_of};
 ghost use Rattle.pivot_form.specs.Shorts.{IsBasic, IsShort, StandsAlone, store_of};
 ghost use Rattle.pivot_form.specs.declared.places.Place.TheVariants.{Column, Kept, Paired};
 
@@ -132,4 +132,79 @@ fn pivot_kept(
 {
     turn(lead, short.rows[slot].as_slice(), column);
     exchange(short, row, entering, column, Some(slot), lead, scratch);
+}
+
+/// Writes the equation of a pair, of which the one has the column, as a lead.
+fn write_pair(lead: &mut [i64], width: usize, column: usize, sum: i64)
+    requires wide { length lead.old ≡ width + 2 }
+    requires within { column < width }
+    ensures { lead.new ≡ pair_row width column sum }
+{
+    lead.fill(0);
+    lead[width + 1] = sum;
+    lead[width] = 1;
+    lead[column] = 1;
+}
+
+/// The next form, where the equation of the row's basic variable is that of its pair.
+fn pivot_pair(
+    short: &mut Short,
+    row: usize,
+    pair: Pair,
+    entering: usize,
+    column: usize,
+    lead: &mut [i64],
+    scratch: &mut [i128],
+)
+    requires short { IsShort (store_of short.old) }
+    requires row { row < length (store_of short.old).basis }
+    requires entering { entering < variables_of (store_of short.old) }
+    requires column { place_of (store_of short.old) entering ≡ Column column }
+    requires paired { place_of (store_of short.old) (slice_index (store_of short.old).basis row) ≡ Paired }
+    requires pair { pair_of (store_of short.old) (slice_index (store_of short.old).basis row) ≡ Some pair }
+    requires other { (j : ℕ) × (place_of (store_of short.old) pair.other ≡ Column j) }
+    requires nonzero { entry (table_of (store_of short.old)) row entering ≢ pos 0 }
+    requires narrow { first_large_of (next_form (table_of (store_of short.old)) row entering).rows ≡ None }
+    requires same_lead { length lead.old ≡ short.old.width + 2 }
+    requires same_scratch { length scratch.old ≡ short.old.width + 2 }
+    ensures short { IsShort (store_of short.new) }
+    ensures value { table_of (store_of short.new) ≡ next_form (table_of (store_of short.old)) row entering }
+    ensures width { short.new.width ≡ short.old.width }
+{
+    write_pair(lead, short.width, column, pair.sum);
+    exchange(short, row, entering, column, None, lead, scratch);
+}
+
+/// The next form: the variable becomes basic in the row.
+pub(crate) fn pivot(
+    short: &mut Short,
+    row: usize,
+    entering: usize,
+    lead: &mut [i64],
+    scratch: &mut [i128],
+)
+    requires short { IsShort (store_of short.old) }
+    requires row { row < length (store_of short.old).basis }
+    requires entering { entering < variables_of (store_of short.old) }
+    requires nonbasic { IsNonbasic (tableau (table_of (store_of short.old))) entering }
+    requires nonzero { entry (table_of (store_of short.old)) row entering ≢ pos 0 }
+    requires narrow { first_large_of (next_form (table_of (store_of short.old)) row entering).rows ≡ None }
+    requires same_lead { length lead.old ≡ short.old.width + 2 }
+    requires same_scratch { length scratch.old ≡ short.old.width + 2 }
+    ensures short { IsShort (store_of short.new) }
+    ensures value { table_of (store_of short.new) ≡ next_form (table_of (store_of short.old)) row entering }
+    ensures width { short.new.width ≡ short.old.width }
+{
+    let basic = short.basics[row];
+    unpair(short, basic);
+    let Place::Column(column) = short.places[entering] else {
+        unreachable!();
+    };
+    match (short.places[basic], short.pairs[basic]) {
+        (Place::Kept(slot), _) => pivot_kept(short, row, slot, entering, column, lead, scratch),
+        (Place::Paired, Some(pair)) => pivot_pair(
+            short, row, pair, entering, column, lead, scratch,
+        ),
+        _ => unreachable!(),
+    }
 }

@@ -47,7 +47,7 @@ mirror-requires-clause-small_row c =
     let k = slot s c.args.basic c.args.slot c.args.pair c.requires.short c.requires.within c.requires.paired c.requires.pair c.requires.other in
     subst (All (λ x. unsigned_abs x < WIDE)) (sym (given c.args.short.now.rows.items c.args.slot c.index_mut.result.now c.as_mut_slice.result.now c.as_mut_slice.ensures.value c.index_mut.ensures.value k))
     (λ j d h. subst (λ (x : ℤ). unsigned_abs x < WIDE) (sym (get_or_default (short_row s c.args.slot) j d (pos 0) h))
-      (cell_small s c.args.slot j c.requires.short k (omega (arith, h, c.requires.short.store.widths c.args.slot k))))
+    (cell_small s c.args.slot j c.requires.short k (omega (arith, h, c.requires.short.store.widths c.args.slot k))))
 
 pub mirror-requires-clause-narrow : goal.mirror-requires-clause-narrow
 mirror-requires-clause-narrow c =
@@ -70,5 +70,5 @@ returns c =
     let row = given c.args.short.now.rows.items c.args.slot vec c.as_mut_slice.result.now c.as_mut_slice.ensures.value c.index_mut.ensures.value k in
     let new : (with_items vec c.mirror.new.row).items ≡ c.mirror.new.row = with_items_is vec c.mirror.new.row (omega (arith, c.mirror.auto.row, ap length c.as_mut_slice.ensures.value) ∙ sym vec.ok.0) in
     let mirror_is : c.mirror.new.row ≡ mirrored c.args.short.now.width c.args.pair.sum (short_row s c.args.slot)
-      = c.mirror.ensures ∙ rw (same_sum s c.args.basic c.args.slot c.args.pair c.requires.short c.requires.within c.requires.paired c.requires.pair c.requires.other, row) refl in
+    = c.mirror.ensures ∙ rw (same_sum s c.args.basic c.args.slot c.args.pair c.requires.short c.requires.within c.requires.paired c.requires.pair c.requires.other, row) refl in
     flipped_same s c.args.basic c.args.pair c.args.slot _ (row_lists-set c.args.short.now.rows.items c.args.slot (with_items vec c.mirror.new.row) ∙ ap (set (row_lists c.args.short.now.rows.items) c.args.slot) (new ∙ mirror_is))
