@@ -18,7 +18,7 @@ use Rattle.pivot_form.specs.Shorts.{IsBasic, IsShort, StandsAlone}
 use Rattle.pivot_form.proofs.Equations.{IsTurned, length-map_from, none_from_small, turned_by}
 use Rattle.pivot_form.proofs.NextForm.{next_is_form}
 use Rattle.pivot_form.proofs.Whole.{entry_is, height, kept_own, pair_first, pair_none, pair_second}
-use Rattle.pivot_form.proofs.Shorts.{cell_small, pair_at, pair_right}
+use Rattle.pivot_form.proofs.Shorts.{cell_small, pair_at, pair_right, sum_small}
 use Rattle.pivot_form.proofs.Exchange.{IsLead, MayExchange, exchanged_is_next, exchanged_store}
 use Rattle.pivot_form.proofs.Flips.{at_basic, flipped_store, flipped_table, variables}
 
@@ -219,6 +219,31 @@ module _ (s : Store) (r e j : ℕ) (is : IsShort s) (row : r < length s.basis) (
           lead_is = may.1;
           slot_is = inr (refl, paired, (p, pair, may.0));
         }) nonzero narrow
+
+    pub pair_positive : pos 0 <ℤ get_or (pair_row s.width j p.sum) j (pos 0)
+    pair_positive = let may = pair_may s (get_or s.basis r 0) e j p is row_basic paired pair within column i other row_entry in may.1.positive
+
+    pub pair_small : All (λ x. unsigned_abs x < WIDE) (pair_row s.width j p.sum)
+    pair_small k d l =
+        let inside : k < s.width + 2 = omega (arith, l, length-map-range_with_len (pair_lead s.width j p.sum) 0 (s.width + 2)) in
+        subst (λ (x : ℤ). unsigned_abs x < WIDE) (sym (get_or_default (pair_row s.width j p.sum) k d (pos 0) l ∙ lead_at s.width j p.sum k inside)) (one_of (pair_lead s.width j p.sum k) (kinds k))
+      where
+        small_sum : unsigned_abs p.sum < WIDE
+        small_sum = sum_small s (get_or s.basis r 0) p is row_basic.within pair
+
+        kinds : (k : ℕ) → (pair_lead s.width j p.sum k ≡ pos 1) ⊎ ((pair_lead s.width j p.sum k ≡ p.sum) ⊎ (pair_lead s.width j p.sum k ≡ pos 0))
+        kinds k =
+            ⊎_elim (λ (f : k ≡ j). inl (grind (arith, nat_tests)))
+            (λ off. ⊎_elim (λ (f : k ≡ s.width). inl (grind (arith, nat_tests)))
+              (λ away. ⊎_elim (λ (f : k ≡ s.width + 1). inr (inl (grind (arith, nat_tests)))) (λ apart. inr (inr (grind (arith, nat_tests)))) (cases_eq k (s.width + 1)))
+              (cases_eq k s.width))
+            (cases_eq k j)
+
+        one_of : (x : ℤ) → (x ≡ pos 1) ⊎ ((x ≡ p.sum) ⊎ (x ≡ pos 0)) → unsigned_abs x < WIDE
+        one_of x kind = ⊎_elim
+            (λ (f : x ≡ pos 1). omega (arith, ints, f))
+            (λ rest. ⊎_elim (λ (f : x ≡ p.sum). subst (λ (y : ℤ). unsigned_abs y < WIDE) (sym f) small_sum) (λ (f : x ≡ pos 0). omega (arith, ints, f)) rest)
+            kind
 
 -- what the slots keep after an exchange is small
 pub exchanged_narrow : (s : Store) (r b e j : ℕ) (lead : List ℤ) (slot : Option ℕ) (k : ℕ) → IsShort (exchanged s r b e j lead slot) → k < length s.rows → first_large (short_row (exchanged s r b e j lead slot) k) ≡ None
