@@ -16,7 +16,7 @@ use Rattle.pivot_form.specs.Kept.{Store, cell, entry_at, entry_by, own, kept_rig
 use Rattle.pivot_form.specs.Shorts.{IsBasic, IsShort}
 use Rattle.pivot_form.proofs.Equations.{length-row_lists, row_lists-get}
 use Rattle.pivot_form.proofs.Unique.{find_row}
-use Rattle.pivot_form.proofs.Whole.{IsKeptRow, IsMirrorRow, IsPairRow, cell_at, height, kept_own, pair_first, pair_none, pair_second, row_at, row_entry_inside, row_entry_last, row_kind}
+use Rattle.pivot_form.proofs.Whole.{IsMirrorRow, IsPairRow, cell_at, height, kept_own, pair_first, pair_none, pair_second, row_at, row_entry_inside, row_entry_last, row_kind}
 
 pub column_inside : (s : Store) (v j : ℕ) → IsShort s → v < variables_of s → place_of s v ≡ Column j → j < s.width + 2
 column_inside s v j is l e = omega (arith, is.store.columns v j l e)
@@ -43,7 +43,7 @@ kept_bits x small = to_z-of_z w64 x (fits_signed_from_abs w64 x small)
 pub small_bits : (x : ℤ) → unsigned_abs x < WIDE → unsigned_abs (to_z w64 (of_z w64 x)) < WIDE
 small_bits x small = subst (λ (y : ℤ). unsigned_abs y < WIDE) (sym (kept_bits x small)) small
 
-pub wide_bits : (x : ℤ) → unsigned_abs x < WIDE → to_z w128 (of_z w128 x) ≡ x
+wide_bits : (x : ℤ) → unsigned_abs x < WIDE → to_z w128 (of_z w128 x) ≡ x
 wide_bits x small = to_z-of_z w128 x (fits_signed_from_abs w128 x (omega (arith, small)))
 
 pub cast_fits : (x : ℤ) → unsigned_abs x < WIDE → FitsSigned w64 (to_z w128 (of_z w128 x))
@@ -57,7 +57,7 @@ pub equation : (s : Store) (b : ℕ) → IsShort s → IsBasic s b → IsEquatio
 equation s b is basic =
     ⊎_elim
     (λ (found : (i : ℕ) × (i < length s.basis) × (get_or s.basis i 0 ≡ b)).
-      subst (IsEquation (variables_of s)) (row_at s found.0 found.1 ∙ ap (whole_row s) found.2) (is.form.equations found.0 [] (omega (arith, found.1, height s))))
+    subst (IsEquation (variables_of s)) (row_at s found.0 found.1 ∙ ap (whole_row s) found.2) (is.form.equations found.0 [] (omega (arith, found.1, height s))))
     (λ none. let c = is.store.other_place b basic.within none in absurd (basic.no_column c.0 c.1))
     (find_row (length s.basis) (λ i. get_or s.basis i 0) b)
 
@@ -83,12 +83,12 @@ cell_small s k j is l h =
     let as_kept : (v : ℕ) → entry_of s b v ≡ kept_entry s k v = λ v. ap (λ (x : Place). entry_by s b x v) found.2 in
     ⊎_elim
     (λ (inside : j < s.width). let c = is.store.all_columns j inside in
-      subst (λ (x : ℤ). unsigned_abs x < WIDE) (as_kept c.0 ∙ ap (entry_at s k) c.2) (entry_small s b c.0 is basic c.1))
+    subst (λ (x : ℤ). unsigned_abs x < WIDE) (as_kept c.0 ∙ ap (entry_at s k) c.2) (entry_small s b c.0 is basic c.1))
     (λ past. ⊎_elim
-      (λ (e : j ≡ s.width). subst (λ (x : ℤ). unsigned_abs x < WIDE) (as_kept b ∙ kept_own s k b found.2 ∙ ap (cell s k) (sym e)) (entry_small s b b is basic basic.within))
-      (λ off. let e : s.width + 1 ≡ j = omega (arith, h, past, off) in
-        subst (λ (x : ℤ). unsigned_abs x < WIDE) (ap (right_by s b) found.2 ∙ ap (cell s k) e) (right_small s b is basic))
-      (cases_eq j s.width))
+    (λ (e : j ≡ s.width). subst (λ (x : ℤ). unsigned_abs x < WIDE) (as_kept b ∙ kept_own s k b found.2 ∙ ap (cell s k) (sym e)) (entry_small s b b is basic basic.within))
+    (λ off. let e : s.width + 1 ≡ j = omega (arith, h, past, off) in
+    subst (λ (x : ℤ). unsigned_abs x < WIDE) (ap (right_by s b) found.2 ∙ ap (cell s k) e) (right_small s b is basic))
+    (cases_eq j s.width))
     (cases_lt j s.width)
 
 -- ---- the equation of a pair, and of a mirror
@@ -107,11 +107,11 @@ module _ (s : Store) (b : ℕ) (p : Pair) (is : IsShort s) (basic : IsBasic s b)
 
   as_pair : (j : ℕ) → place_of s p.other ≡ Column j → IsPairRow s b p j
   as_pair j e = row_kind s b is.store basic.within basic.no_column
-    (λ k row. absurd (kept_paired k (sym row.place ∙ paired)))
-    (λ q i row. let same_pair : q ≡ p = let f : Some q ≡ Some p = sym row.pair ∙ pair in cc in
+      (λ k row. absurd (kept_paired k (sym row.place ∙ paired)))
+      (λ q i row. let same_pair : q ≡ p = let f : Some q ≡ Some p = sym row.pair ∙ pair in cc in
       let same_column : i ≡ j = let f : Column i ≡ Column j = sym row.other ∙ ap (λ (x : Pair). place_of s x.other) same_pair ∙ e in cc in
       subst (λ (x : Pair). IsPairRow s b x j) same_pair (subst (λ (x : ℕ). IsPairRow s b q x) same_column row))
-    (λ q k row. let same_pair : q ≡ p = let f : Some q ≡ Some p = sym row.pair ∙ pair in cc in
+      (λ q k row. let same_pair : q ≡ p = let f : Some q ≡ Some p = sym row.pair ∙ pair in cc in
       absurd (kept_column k j (sym row.other ∙ ap (λ (x : Pair). place_of s x.other) same_pair ∙ e)))
     where
       kept_paired : (k : ℕ) → Kept k ≡ Paired → ⊥
@@ -122,10 +122,10 @@ module _ (s : Store) (b : ℕ) (p : Pair) (is : IsShort s) (basic : IsBasic s b)
 
   as_mirror : (k : ℕ) → place_of s p.other ≡ Kept k → IsMirrorRow s b p k
   as_mirror k e = row_kind s b is.store basic.within basic.no_column
-    (λ l row. absurd (kept_paired l (sym row.place ∙ paired)))
-    (λ q i row. let same_pair : q ≡ p = let f : Some q ≡ Some p = sym row.pair ∙ pair in cc in
+      (λ l row. absurd (kept_paired l (sym row.place ∙ paired)))
+      (λ q i row. let same_pair : q ≡ p = let f : Some q ≡ Some p = sym row.pair ∙ pair in cc in
       absurd (column_kept i k (sym row.other ∙ ap (λ (x : Pair). place_of s x.other) same_pair ∙ e)))
-    (λ q l row. let same_pair : q ≡ p = let f : Some q ≡ Some p = sym row.pair ∙ pair in cc in
+      (λ q l row. let same_pair : q ≡ p = let f : Some q ≡ Some p = sym row.pair ∙ pair in cc in
       let same_slot : l ≡ k = let f : Kept l ≡ Kept k = sym row.other ∙ ap (λ (x : Pair). place_of s x.other) same_pair ∙ e in cc in
       subst (λ (x : Pair). IsMirrorRow s b x k) same_pair (subst (λ (x : ℕ). IsMirrorRow s b q x) same_slot row))
     where
@@ -151,9 +151,9 @@ module _ (s : Store) (b : ℕ) (p : Pair) (is : IsShort s) (basic : IsBasic s b)
   pub mirror_here : (k v : ℕ) → place_of s p.other ≡ Kept k → (v ≡ b) ⊎ (v ≡ p.other) → entry_of s b v ≡ own s k -ℤ kept_entry s k v
   mirror_here k v e where_ =
       let one : pair_entry b p.other v ≡ pos 1 = ⊎_elim
-        (λ (f : v ≡ b). pair_first b p.other v f (λ g. good.1 (sym g ∙ f)))
-        (λ (f : v ≡ p.other). pair_second b p.other v (λ g. good.1 (sym f ∙ g)) f)
-        where_ in
+      (λ (f : v ≡ b). pair_first b p.other v f (λ g. good.1 (sym g ∙ f)))
+      (λ (f : v ≡ p.other). pair_second b p.other v (λ g. good.1 (sym f ∙ g)) f)
+      where_ in
       mirror_at k v e ∙ ap (λ (x : ℤ). own s k *ℤ x -ℤ kept_entry s k v) one ∙ omega (arith, ints)
 
   pub mirror_off : (k v : ℕ) → place_of s p.other ≡ Kept k → v ≢ b → v ≢ p.other → entry_of s b v ≡ pos 0 -ℤ kept_entry s k v

@@ -12,10 +12,10 @@ loop-i-preserved c =
     let i = c.loop-i.i in
     let inside : i < length s.basis = omega (arith, c.loop-i-test.true, c.row_count-i-end.ensures) in
     elim c.if-i-row.branch [
-      then-i-row+else-is_some w ↦
-        let none : w.find_cleared-large.result ≡ None = none_of w.find_cleared-large.result (sym w.is_some.ensures ∙ w.if-is_some.false) in
-        past_other s c.args.row c.args.column i c.args.lead.now inside c.requires.lead (omega (arith, w.if-i-row.true))
-        (ap (λ (b : ℕ). first_large (eliminated c.args.column (whole_row s b) c.args.lead.now)) (sym w.basic.ensures) ∙ sym w.find_cleared-large.ensures ∙ none)
-        ∙ c.loop-i.invariant
-    | else-i-row w ↦ past_pivot s c.args.row c.args.column i c.args.lead.now inside c.requires.lead (omega (arith, w.if-i-row.false)) c.requires.small_lead ∙ c.loop-i.invariant
+      | then-i-row+else-is_some w ↦
+          let none : w.find_cleared-large.result ≡ None = none_of w.find_cleared-large.result (sym w.is_some.ensures ∙ w.if-is_some.false) in
+          past_other s c.args.row c.args.column i c.args.lead.now inside c.requires.lead (omega (arith, w.if-i-row.true))
+          (ap (λ (b : ℕ). first_large (eliminated c.args.column (whole_row s b) c.args.lead.now)) (sym w.basic.ensures) ∙ sym w.find_cleared-large.ensures ∙ none)
+          ∙ c.loop-i.invariant
+      | else-i-row w ↦ past_pivot s c.args.row c.args.column i c.args.lead.now inside c.requires.lead (omega (arith, w.if-i-row.false)) c.requires.small_lead ∙ c.loop-i.invariant
     ]
