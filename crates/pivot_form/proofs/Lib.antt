@@ -10,5 +10,8 @@ pub mod Solutions
 pub mod Lowest
 pub mod Swaps
 pub mod Exchange
+pub mod Cleared
+pub mod Flips
+pub mod Steps
 pub mod Shorts
 pub mod WholeRows

@@ -6,6 +6,8 @@
 //! tools and on the definitions of `row_program`.
 #![tactic(auto)]
 
+mod clearing;
+mod exchanges;
 mod first;
 mod form;
 mod places;
