@@ -16,7 +16,7 @@ use Rattle.pivot_form.specs.Kept.{Store, cell, entry_at, entry_by, own, kept_rig
 use Rattle.pivot_form.specs.Shorts.{IsBasic, IsShort}
 use Rattle.pivot_form.proofs.Equations.{length-row_lists, row_lists-get}
 use Rattle.pivot_form.proofs.Unique.{find_row}
-use Rattle.pivot_form.proofs.Whole.{IsKeptRow, IsMirrorRow, IsPairRow, cell_at, height, kept_own, pair_first, pair_none, pair_second, row_at, row_entry_inside, row_entry_last, row_kind}
+use Rattle.pivot_form.proofs.Whole.{IsMirrorRow, IsPairRow, cell_at, height, kept_own, pair_first, pair_none, pair_second, row_at, row_entry_inside, row_entry_last, row_kind}
 
 pub column_inside : (s : Store) (v j : ℕ) → IsShort s → v < variables_of s → place_of s v ≡ Column j → j < s.width + 2
 column_inside s v j is l e = omega (arith, is.store.columns v j l e)
@@ -43,7 +43,7 @@ kept_bits x small = to_z-of_z w64 x (fits_signed_from_abs w64 x small)
 pub small_bits : (x : ℤ) → unsigned_abs x < WIDE → unsigned_abs (to_z w64 (of_z w64 x)) < WIDE
 small_bits x small = subst (λ (y : ℤ). unsigned_abs y < WIDE) (sym (kept_bits x small)) small
 
-pub wide_bits : (x : ℤ) → unsigned_abs x < WIDE → to_z w128 (of_z w128 x) ≡ x
+wide_bits : (x : ℤ) → unsigned_abs x < WIDE → to_z w128 (of_z w128 x) ≡ x
 wide_bits x small = to_z-of_z w128 x (fits_signed_from_abs w128 x (omega (arith, small)))
 
 pub cast_fits : (x : ℤ) → unsigned_abs x < WIDE → FitsSigned w64 (to_z w128 (of_z w128 x))

@@ -1,5 +1,5 @@
 -- The whole equations of what is kept, as code writes them, and those that a pivot makes of them.
-use Rattle.std.proofs.Common.{ℕ, ◌≡◌, ◌≢◌, ◌<◌, ◌+◌, arith, ap, sym, ◌∙◌, ⊎_elim, subst, List, length, get_or, drop, set, refl, false, rules, Option, None, Some}
+use Rattle.std.proofs.Common.{ℕ, ◌≡◌, ◌≢◌, ◌<◌, ◌+◌, arith, ap, sym, ◌∙◌, ⊎_elim, List, length, get_or, drop, set, refl, false, rules, Option, None, Some}
 use Rattle.std.specs.Prelude.{ℤ, pos, ◌<ℤ◌, unsigned_abs}
 use Rattle.std.specs.List.{All}
 use Rattle.std.specs.Option.{is_some}
@@ -8,11 +8,11 @@ use Rattle.std.proofs.lemmas.Bool.Decides.{nat_tests}
 use Rattle.std.proofs.lemmas.List.{get_or-set_same, get_or-set_other, length-set}
 use Rattle.std.proofs.lemmas.List.FromFn.{fill_by_all}
 use Rattle.exact_num.specs.declared.limits.TheConstants.{WIDE}
-use Rattle.row_program.specs.Forms.{eliminated, first_large, first_large_of, map_from, next_form, next_row, row_of, turned}
+use Rattle.row_program.specs.Forms.{eliminated, first_large, first_large_of, map_from, next_row, row_of, turned}
 use Rattle.pivot_form.specs.Kept.{Store, entry_of, right_of, row_entry, table_of, variables_of, whole_row}
 use Rattle.pivot_form.specs.Shorts.{IsBasic, IsShort}
 use Rattle.pivot_form.proofs.Equations.{eliminated_kept, none_from_small}
-use Rattle.pivot_form.proofs.NextForm.{large_here, large_past}
+use Rattle.pivot_form.proofs.NextForm.{large_past}
 use Rattle.pivot_form.proofs.Shorts.{equation}
 use Rattle.pivot_form.proofs.Whole.{height, row_at, row_entry_inside, row_entry_last}
 
@@ -46,18 +46,19 @@ next_row_at place column lead i row e = grind (arith, nat_tests)
 next_row_off : (place column : ℕ) (lead : List ℤ) (i : ℕ) (row : List ℤ) → i ≢ place → next_row place column lead i row ≡ eliminated column row lead
 next_row_off place column lead i row h = grind (arith, nat_tests)
 
+-- what a pivot makes of the row with the number i
+abbrev pub made_of : Store → ℕ → ℕ → ℕ → List ℤ → List ℤ
+made_of s r c = next_row r c (turned c (row_of (table_of s) r))
+
 pub none_of : (found : Option ℕ) → is_some found ≡ false → found ≡ None
 none_of None e = refl
 none_of (Some n) e = absurd (search rules)
 
 module _ (s : Store) (r c i : ℕ) (lead : List ℤ) (l : i < length s.basis) (is : lead ≡ turned c (row_of (table_of s) r)) where
-  abbrev pub f : ℕ → List ℤ → List ℤ
-  f = next_row r c (turned c (row_of (table_of s) r))
-
   inside : i < length (table_of s).rows
   inside = omega (arith, l, height s)
 
-  other_row : i ≢ r → first_large (f i (row_of (table_of s) i)) ≡ first_large (eliminated c (whole_row s (get_or s.basis i 0)) lead)
+  other_row : i ≢ r → first_large (made_of s r c i (row_of (table_of s) i)) ≡ first_large (eliminated c (whole_row s (get_or s.basis i 0)) lead)
   other_row apart =
       ap first_large (next_row_off r c (turned c (row_of (table_of s) r)) i (row_of (table_of s) i) apart)
       ∙ ap (λ (x : List ℤ). first_large (eliminated c (row_of (table_of s) i) x)) (sym is)
@@ -65,15 +66,11 @@ module _ (s : Store) (r c i : ℕ) (lead : List ℤ) (l : i < length s.basis) (i
 
   -- the pivot's own equation is small
   pub past_pivot : i ≡ r → All (λ x. unsigned_abs x < WIDE) lead
-      → first_large_of (map_from f (i + 1) (drop (i + 1) (table_of s).rows)) ≡ first_large_of (map_from f i (drop i (table_of s).rows))
-  past_pivot e small = large_past f (table_of s).rows i inside
+      → first_large_of (map_from (made_of s r c) (i + 1) (drop (i + 1) (table_of s).rows)) ≡ first_large_of (map_from (made_of s r c) i (drop i (table_of s).rows))
+  past_pivot e small = large_past (made_of s r c) (table_of s).rows i inside
       (ap first_large (next_row_at r c (turned c (row_of (table_of s) r)) i (row_of (table_of s) i) e ∙ sym is) ∙ none_from_small lead small)
 
   -- so is one without a large entry
   pub past_other : i ≢ r → first_large (eliminated c (whole_row s (get_or s.basis i 0)) lead) ≡ None
-      → first_large_of (map_from f (i + 1) (drop (i + 1) (table_of s).rows)) ≡ first_large_of (map_from f i (drop i (table_of s).rows))
-  past_other apart none = large_past f (table_of s).rows i inside (other_row apart ∙ none)
-
-  pub found_here : (n : ℕ) → i ≢ r → first_large (eliminated c (whole_row s (get_or s.basis i 0)) lead) ≡ Some n
-      → first_large_of (map_from f i (drop i (table_of s).rows)) ≡ Some n
-  found_here n apart some = large_here f (table_of s).rows i n inside (other_row apart ∙ some)
+      → first_large_of (map_from (made_of s r c) (i + 1) (drop (i + 1) (table_of s).rows)) ≡ first_large_of (map_from (made_of s r c) i (drop i (table_of s).rows))
+  past_other apart none = large_past (made_of s r c) (table_of s).rows i inside (other_row apart ∙ none)

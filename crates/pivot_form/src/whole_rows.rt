@@ -24,8 +24,8 @@ pub(crate) fn write_row(short: &Short, basic: usize, out: &mut [i64])
     out[variables] = short.right(basic);
 }
 
-/// The size of the first large entry of the next form, in row order, then column order, a right side after its columns. It
-/// goes over whole equations, which it writes one after another.
+/// The size of the first large entry of the next form, in row order, then column order, a right side after its columns.
+/// It goes over whole equations, which it writes one after another.
 pub(crate) fn first_large(
     short: &Short,
     row: usize,
@@ -82,8 +82,8 @@ fn find_in_rows(
     None
 }
 
-/// The size of the first large entry of the basic variable's equation, cleared in the column by the lead. An equation that
-/// is cleared already stays, and has none.
+/// The size of the first large entry of the basic variable's equation, cleared in the column by the lead. An equation
+/// that is cleared already stays, and has none.
 fn find_cleared(
     short: &Short,
     basic: usize,

@@ -1,5 +1,4 @@
-use Rattle.pivot_form.proofs.Steps.{row_narrow}
-use Rattle.std.proofs.Common.{arith, refl, ◌∙◌, ◌≡◌, ◌<◌, subst, sym, length}
+use Rattle.std.proofs.Common.{arith, refl, ◌∙◌, ◌≡◌, ◌<◌, subst, sym}
 use Rattle.std.specs.Prelude.{unsigned_abs, ℤ}
 use Rattle.exact_num.specs.declared.limits.TheConstants.{WIDE}
 use Rattle.pivot_form.specs.Kept.{cell}
