@@ -2,6 +2,7 @@
 use Rattle.std.proofs.Common.{ℕ, List, [], ◌∷◌, None, ◌≡◌, ◌++◌, ◌<◌, ◌≤◌, ◌+◌, ◌-◌, ◌*◌, ◌∙◌, drop, suc, suc-mul, get_or, length, map, refl, sym, ap, arith}
 use Rattle.std.specs.Prelude.{Bool, Result, OnOk, codes, decimal}
 use Rattle.std.specs.List.{flat_map, join_with_byte, range_with_len, slice_range}
+use Rattle.std.proofs.lemmas.Nat.{mul-le}
 use Rattle.std.proofs.lemmas.List.{get_or-drop, get_or-take, length-drop, length-take}
 use Rattle.std.proofs.lemmas.List.Folds.{flat_map-map}
 use Rattle.ballot_form.specs.Ballots.{IsPoll, Poll}
@@ -31,7 +32,7 @@ round_same p order held counts standing i c out is set at same size long within 
     rw (lent, fields, at) refl
   where
     row_within : (i c : ℕ) → i < c → i * c + c ≤ c * c
-    row_within i c l = omega (arith, suc-mul i c, mul-mono (suc i) c c (omega (arith, l)))
+    row_within i c l = omega (arith, suc-mul i c, mul-le (suc i) c c c (omega (arith, l)) (omega arith))
 
 rounds_counted : (p : Poll) (order text : List ℕ) (x i : ℕ) → IsOrderBy None p order → i + 1 ≡ p.c → x ≡ get_or order i 0
     → text ≡ rounds_text p order ++ reported_text (Winner x) → IsCounted Irv p text
