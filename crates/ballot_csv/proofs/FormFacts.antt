@@ -1,6 +1,6 @@
 -- The plain form, as far as it is written.
-use Rattle.std.proofs.Common.{ℕ, List, [], ◌∷◌, ◌++◌, ◌≡◌, ◌∙◌, ◌+◌, ◌<◌, ◌≤◌, refl, sym, ap, codes, length, append_assoc, drop, get_or, map, take}
-use Rattle.std.specs.Prelude.{Err, IfOk, IfSome, Ok, Result, slice_get}
+use Rattle.std.proofs.Common.{ℕ, List, [], ◌∷◌, ◌++◌, ◌≡◌, ◌∙◌, ◌+◌, ◌<◌, refl, sym, ap, codes, length, append_assoc, get_or, map, take}
+use Rattle.std.specs.Prelude.{Err, IfOk, Ok, Result}
 use Rattle.std.proofs.lemmas.List.{append-nil, map-append, take_more}
 use Rattle.std.proofs.lemmas.Option.{slice_get-get_or}
 use Rattle.csv.specs.Writing.{row_text}

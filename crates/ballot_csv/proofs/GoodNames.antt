@@ -1,14 +1,12 @@
 -- The names of a head without a fault are distinct, and each is one that a contest admits.
-use Rattle.std.proofs.Common.{ℕ, List, [], ◌∷◌, ◌++◌, ◌≡◌, ◌<◌, refl, sym, true, false, Option, Some, None, All, length, suc, zero, arith, inl, inr, get_or, append_assoc, subst, drop}
+use Rattle.std.proofs.Common.{ℕ, List, [], ◌∷◌, ◌++◌, ◌≡◌, refl, sym, true, false, Option, Some, None, All, length, suc, zero, arith, inl, inr, append_assoc, subst, drop}
 use Rattle.std.specs.Prelude.{AllPairs, ◌≢◌, ◌==◌, codes, nat_lt}
 use Rattle.std.specs.List.{list_any}
 use Rattle.std.specs.Str.{bytes_eq}
 use Rattle.std.proofs.lemmas.Bool.{cases_Bool}
 use Rattle.std.proofs.lemmas.List.{append-nil}
 use Rattle.std.proofs.lemmas.List.Elements.{All-nil}
-use Rattle.std.proofs.lemmas.List.Folds.{list_any_at}
 use Rattle.std.proofs.lemmas.List.Quantifiers.{all_pairs_push}
-use Rattle.std.proofs.lemmas.Slice.Eq.{bytes_eq-Decides}
 use Rattle.ballot_form.specs.Names.{is_name}
 use Rattle.ballot_form.specs.declared.limits.TheConstants.{MOST_CANDIDATES}
 use Rattle.ballot_csv.specs.HeadRecord.{filled_fault, head_fault, name_fault, names_fault, names_of, or_later, without_empty_end}

@@ -1,7 +1,7 @@
 -- The plain form of a contest is read as that contest.
-use Rattle.std.proofs.Common.{ℕ, List, [], ◌∷◌, ◌++◌, ◌≡◌, ◌∙◌, ◌+◌, ◌<◌, ◌≤◌, refl, sym, ap, subst, Bool, false, true, All, Some, None, length, zero, suc, arith, inl, inr, map, replicate, append_assoc, length-append, get_or}
-use Rattle.std.specs.Prelude.{◌==◌, ◌≢◌, ⊤, AllPairs, Ok, codes, nat_lt, not, position}
-use Rattle.std.specs.List.{list_any, prefix_len}
+use Rattle.std.proofs.Common.{ℕ, List, [], ◌∷◌, ◌++◌, ◌≡◌, ◌∙◌, ◌+◌, ◌<◌, ◌≤◌, refl, sym, ap, subst, false, true, All, None, length, arith, inl, inr, map, replicate, append_assoc, length-append, get_or}
+use Rattle.std.specs.Prelude.{◌==◌, ◌≢◌, ⊤, AllPairs, Ok, codes, nat_lt}
+use Rattle.std.specs.List.{list_any}
 use Rattle.std.specs.Str.{bytes_eq}
 use Rattle.std.proofs.Math.Seq.{get_or-append_seam}
 use Rattle.std.proofs.lemmas.Bool.{cases_Bool}
@@ -10,7 +10,6 @@ use Rattle.std.proofs.lemmas.List.{get_or_append_left, length-replicate}
 use Rattle.std.proofs.lemmas.List.Elements.{All-cons, All-nil}
 use Rattle.std.proofs.lemmas.List.Folds.{list_any_none}
 use Rattle.std.proofs.lemmas.Option.{unwrap_or-slice_get}
-use Rattle.std.proofs.lemmas.Slice.Eq.{bytes_eq-Decides}
 use Rattle.csv.specs.Reading.{default_config, records}
 use Rattle.csv.specs.Writing.{fields_text}
 use Rattle.ballot_form.specs.Ballots.{IsPoll, IsValidBallot}

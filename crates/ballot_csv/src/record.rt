@@ -13,7 +13,7 @@ use crate::names::NameIndex;
 use ballot_form::{PushFault, Ranking, Roll};
 use csv::ByteRecord;
 
-/// Adds the ballots of a record below the head. What `ballot` was is lost: the memory that it has serves for the record's ballot.
+/// Adds the ballots of a record below the head. `ballot` is overwritten: its memory serves for each record's ballot.
 pub(crate) fn add_record(
     names: &NameIndex,
     cells: &ByteRecord,
