@@ -10,7 +10,7 @@ use std::alloc::Global;
 use std::hash::{FoldHasher, Hasher};
 use std::marker::Model;
 
-/// The names of the candidates, found by their bytes. For each hash it keeps one candidate, whose name is compared first.
+/// The names of the candidates, found by their bytes. For each hash it has one candidate, whose name is compared first.
 #[derive(Drop)]
 pub(crate) struct NameIndex<'a> {
     names: Vec<&'a [u8]>,
