@@ -12,7 +12,7 @@ use Rattle.irv_count.specs.Orders.{AreHeld, IsOrderBy, held_count, left_after, s
 use Rattle.irv_count.specs.Rounds.{AreBitsOf}
 use Rattle.goal_rows.proofs.OutcomesReported.{last_reported}
 use Rattle.mov_run.specs.Tally.{AddsCount, IsCounted, for_each, held_field, reported_text, round_of, round_text, rounds_text}
-use Rattle.mov_run.proofs.Ranges.{adds_both, each_same, line_in_pieces, map_same}
+use Rattle.mov_run.proofs.Ranges.{adds_both, line_in_pieces, map_same}
 
 field_same : (s t : ℕ → Bool) (f h : ℕ → ℕ) (x : ℕ) → s x ≡ t x → f x ≡ h x → held_field s f x ≡ held_field t h x
 field_same s t f h x one other = rw (one, other) refl
@@ -25,8 +25,8 @@ round_same p order held counts standing i c out is set at same size long within 
     let full : i * p.c + p.c ≤ p.c * p.c = row_within i p.c within in
     let lent : length counts ≡ p.c = ap length part ∙ ap (λ (n : ℕ). length (slice_range held (i * n) (i * n + n))) same ∙ omega (arith, length-take (i * p.c + p.c - i * p.c) (drop (i * p.c) held), length-drop (i * p.c) held, size, full) in
     let cell : (x : ℕ) → x < p.c → get_or counts x 0 ≡ held_count (left_after order i) p.ballots x =
-      λ x l. ap (λ (row : List ℕ). get_or row x 0) part ∙ ap (λ (n : ℕ). get_or (slice_range held (i * n) (i * n + n)) x 0) same
-        ∙ get_or-take (i * p.c + p.c - i * p.c) (drop (i * p.c) held) x 0 (omega (arith, l)) ∙ get_or-drop (i * p.c) held x 0 ∙ are i x (omega (arith, long, within)) l in
+    λ x l. ap (λ (row : List ℕ). get_or row x 0) part ∙ ap (λ (n : ℕ). get_or (slice_range held (i * n) (i * n + n)) x 0) same
+    ∙ get_or-take (i * p.c + p.c - i * p.c) (drop (i * p.c) held) x 0 (omega (arith, l)) ∙ get_or-drop (i * p.c) held x 0 ∙ are i x (omega (arith, long, within)) l in
     let fields : map (held_field (stands standing) (λ x. get_or counts x 0)) (range_with_len 0 p.c) ≡ map (held_field (left_after order i) (held_count (left_after order i) p.ballots)) (range_with_len 0 p.c) =
     map_same (held_field (stands standing) (λ x. get_or counts x 0)) (held_field (left_after order i) (held_count (left_after order i) p.ballots)) 0 p.c (λ x lo hi. field_same (stands standing) (left_after order i) (λ x. get_or counts x 0) (held_count (left_after order i) p.ballots) x (set.bits x (omega (arith, hi))) (cell x (omega (arith, hi)))) in
     rw (lent, fields, at) refl

@@ -24,12 +24,7 @@ pub(crate) fn push_irv(alloc: Global, out: &mut Vec<u8>, roll: &Roll) -> Result<
 }
 
 /// Adds a line for each round, till one is left. Each round has a row in `held`.
-fn push_rounds(
-    out: &mut Vec<u8>,
-    roll: &Roll,
-    order: &[Cand],
-    held: &[u32],
-) -> Result<(), Memory>
+fn push_rounds(out: &mut Vec<u8>, roll: &Roll, order: &[Cand], held: &[u32]) -> Result<(), Memory>
     requires order { IsOrder roll.now.c order.now }
     requires size { length held.now ≡ roll.now.c * roll.now.c }
     requires held { AreHeld roll.now order.now held.now }
