@@ -1,7 +1,7 @@
 use Rattle.std.proofs.Common.{◌≡◌, ◌∷◌, [], decimal, map, take}
 use Rattle.csv.specs.Records.{fields_of, partial_of}
 use Rattle.ballot_csv.specs.PlainForm.{name_at}
-use Rattle.ballot_csv.proofs.print.fill_record.Given as goal
+use Rattle.ballot_csv.proofs.print.run_record.Given as goal
 
 abbrev pub invariant-loop-x : goal.invariant-loop-x
 invariant-loop-x l = record {

@@ -1,6 +1,6 @@
 use Rattle.std.proofs.Common.{◌∙◌, get_or, refl}
 use Rattle.ballot_csv.proofs.FormFacts.{names_more}
-use Rattle.ballot_csv.proofs.print.fill_record.Goals as goal
+use Rattle.ballot_csv.proofs.print.run_record.Goals as goal
 
 pub loop-x-preserved : goal.loop-x-preserved
 loop-x-preserved c = record {
