@@ -11,3 +11,6 @@ pub mod Lowest
 pub mod Swaps
 pub mod Exchange
 pub mod Shorts
+pub mod ClassPairs
+pub mod FirstSlots
+pub mod Starts

@@ -8,8 +8,10 @@
 
 mod first;
 mod form;
+mod pairs;
 mod places;
 mod rows;
 mod short;
+mod start;
 
 pub use form::{Form, Wide};
