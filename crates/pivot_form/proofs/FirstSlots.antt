@@ -1,5 +1,5 @@
 -- The slots of a program's first form.
-use Rattle.std.proofs.Common.{ℕ, zero, suc, ◌≡◌, ◌≢◌, ◌<◌, ◌≤◌, ◌+◌, ◌-◌, ◌++◌, arith, refl, ap, sym, ◌∙◌, ⊎_elim, subst, List, [], ◌∷◌, length, get_or, Some, None, Option, true, false, cond, set, take, length-append}
+use Rattle.std.proofs.Common.{ℕ, zero, suc, ◌≡◌, ◌≢◌, ◌<◌, ◌≤◌, ◌+◌, ◌-◌, ◌++◌, arith, refl, ap, sym, ◌∙◌, ⊎_elim, subst, List, [], ◌∷◌, length, get_or, Some, None, Option, true, false, Bool, cond, not, set, take, length-append}
 use Rattle.std.specs.Prelude.{ℤ, pos, ◌+ℤ◌, ◌==◌, is_some}
 use lib.IntN.{neg_ℤ}
 use Rattle.std.specs.List.{All, AllPairs}
@@ -8,16 +8,17 @@ use Rattle.std.proofs.lemmas.Bool.{cases_eq, cases_lt}
 use Rattle.std.proofs.lemmas.Bool.Decides.{nat_tests}
 use Rattle.std.proofs.lemmas.List.{get_or_append_left, get_or-append_right, get_or_default, get_or-set_other, get_or-set_same, get_or-take, length-take}
 use Rattle.row_program.specs.declared.program.Term.{Term}
+use Rattle.row_program.specs.declared.program.Row.{Row}
 use Rattle.row_program.specs.declared.program.Program.{Program}
-use Rattle.row_program.specs.Forms.{coefficient, first_basic}
+use Rattle.row_program.specs.Forms.{coefficient, empty_row, first_basic, variable_count}
 use Rattle.pivot_form.specs.declared.places.Pair.{Pair}
 use Rattle.pivot_form.specs.declared.places.Place.{Place}
-use Rattle.pivot_form.specs.declared.places.Place.TheVariants.{Column}
-use Rattle.pivot_form.proofs.FirstForm.{coefficient_none}
+use Rattle.pivot_form.specs.declared.places.Place.TheVariants.{Column, Kept, Paired}
+use Rattle.pivot_form.proofs.FirstForm.{coefficient_none, cost_at, cost_past, slack_constant, slack_variable}
 use Rattle.pivot_form.specs.Starts.{AreFirstRows, IsFirstRow, basic_place, first_place, pair_in, slots_before, slots_for}
 
 -- ---- slots
-pub slots_more : (n : ℕ) (pairs : List (Option Pair)) (e f : ℕ) → e + 1 ≡ f → slots_before n pairs f ≡ slots_before n pairs e + slots_for (pair_in pairs (first_basic n e))
+slots_more : (n : ℕ) (pairs : List (Option Pair)) (e f : ℕ) → e + 1 ≡ f → slots_before n pairs f ≡ slots_before n pairs e + slots_for (pair_in pairs (first_basic n e))
 slots_more n pairs e zero h = absurd (omega (arith, h))
 slots_more n pairs e (suc f) h = let k : f ≡ e = omega (arith, h) in ap (λ (x : ℕ). slots_before n pairs x + slots_for (pair_in pairs (first_basic n x))) k
 
@@ -78,10 +79,72 @@ place_in_column n pairs v j h e = let k : v - 1 ≡ j = omega (arith, e) in firs
 pub place_of_slack : (n : ℕ) (pairs : List (Option Pair)) (v e : ℕ) → n + e ≡ v → 0 < e → first_place n pairs v ≡ basic_place (pair_in pairs v) (slots_before n pairs e)
 place_of_slack n pairs v e h l = let k : v - n ≡ e = omega (arith, h) in first_slack n pairs v (omega (arith, h, l)) ∙ ap (λ (x : ℕ). basic_place (pair_in pairs v) (slots_before n pairs x)) k
 
+-- ---- what a test for a pair says
+none_of : (q : Option Pair) (r : Bool) → is_some q ≡ not r → r ≡ true → q ≡ None
+none_of None r e f = refl
+none_of (Some q) r e f = absurd (let g : true ≡ false = e ∙ ap not f in cc)
+
+some_of : (q : Option Pair) (r : Bool) → is_some q ≡ not r → r ≡ false → (p : Pair) × (q ≡ Some p)
+some_of None r e f = absurd (let g : false ≡ true = e ∙ ap not f in cc)
+some_of (Some q) r e f = (q, refl)
+
+basic_is : (n e v : ℕ) → n + e ≡ v → 0 < e → first_basic n e ≡ v
+basic_is n zero v h l = absurd (omega (arith, l))
+basic_is n (suc e) v h l = omega (arith, h)
+
+-- at the slack v, as code goes over the slacks in order
+module _ (n : ℕ) (pairs : List (Option Pair)) (v slot : ℕ) (r : Bool) (past : n < v) (test : is_some (pair_in pairs v) ≡ not r) (next : (e : ℕ) → n + e ≡ v → slot ≡ slots_before n pairs e) where
+  place_there : first_place n pairs v ≡ basic_place (pair_in pairs v) slot
+  place_there = first_slack n pairs v past ∙ ap (basic_place (pair_in pairs v)) (sym (next (v - n) (omega (arith, past))))
+
+  slot_there : (f : ℕ) → n + f ≡ v + 1 → slots_before n pairs f ≡ slot + slots_for (pair_in pairs v)
+  slot_there f h =
+      slots_more n pairs (v - n) f (omega (arith, h, past))
+      ∙ ap (λ (x : ℕ). slots_before n pairs (v - n) + slots_for (pair_in pairs x)) (basic_is n (v - n) v (omega (arith, past)) (omega (arith, past)))
+      ∙ ap (λ (x : ℕ). x + slots_for (pair_in pairs v)) (sym (next (v - n) (omega (arith, past))))
+
+  pub kept_there : r ≡ true → first_place n pairs v ≡ Kept slot
+  kept_there e = place_there ∙ ap (λ (q : Option Pair). basic_place q slot) (none_of (pair_in pairs v) r test e)
+
+  pub paired_there : r ≡ false → first_place n pairs v ≡ Paired
+  paired_there e = place_there ∙ ap (λ (q : Option Pair). basic_place q slot) (let found = some_of (pair_in pairs v) r test e in found.1)
+
+  pub next_kept : r ≡ true → (f : ℕ) → n + f ≡ v + 1 → slot + 1 ≡ slots_before n pairs f
+  next_kept e f h = sym (slot_there f h ∙ ap (λ (q : Option Pair). slot + slots_for q) (none_of (pair_in pairs v) r test e))
+
+  pub next_paired : r ≡ false → (f : ℕ) → n + f ≡ v + 1 → slot ≡ slots_before n pairs f
+  next_paired e f h = let found = some_of (pair_in pairs v) r test e in sym (slot_there f h ∙ ap (λ (q : Option Pair). slot + slots_for q) found.1 ∙ omega arith)
+
 -- ---- rows
-pub none_by_test : (q : Option Pair) → is_some q ≡ false → q ≡ None
-none_by_test None e = refl
-none_by_test (Some q) e = absurd (cc)
+-- the cost's equation
+pub cost_first : (p : Program) (costs : List ℕ) (row : List ℤ) → costs ≡ p.costs → length row ≡ length costs + 2
+    → ((v : ℕ) → v < length costs → get_or row v (pos 0) ≡ neg_ℤ (pos (get_or costs v 0))) → get_or row (length costs) (pos 0) ≡ pos 1 → get_or row (length costs + 1) (pos 0) ≡ pos 0 → IsFirstRow p 0 row
+cost_first p costs row same wide columns mine last = record {
+  width = wide ∙ ap (λ (k : ℕ). k + 2) count;
+  columns = λ j h. columns j (omega (arith, h, count)) ∙ ap (λ (xs : List ℕ). neg_ℤ (pos (get_or xs j 0))) same ∙ sym (cost_at p.costs (1 + j) (omega arith) ∙ ap (λ (k : ℕ). neg_ℤ (pos (get_or p.costs k 0))) (after j));
+  own = ap (λ (k : ℕ). get_or row k (pos 0)) (sym count) ∙ mine;
+  right = ap (λ (k : ℕ). get_or row (k + 1) (pos 0)) (sym count) ∙ last ∙ sym (cost_past p.costs (variable_count p) (omega arith));
+}
+  where
+    count : length costs ≡ length p.costs
+    count = ap length same
+
+    after : (j : ℕ) → 1 + j - 1 ≡ j
+    after j = omega arith
+
+-- and that of the row i
+pub slack_kept : (p : Program) (n i : ℕ) (source : Row) (row : List ℤ) → n ≡ length p.costs → source ≡ get_or p.rows i empty_row → length row ≡ n + 2
+    → ((v : ℕ) → v < n → get_or row v (pos 0) ≡ neg_ℤ (coefficient source.terms v)) → get_or row n (pos 0) ≡ pos 1 → get_or row (n + 1) (pos 0) ≡ source.constant → IsFirstRow p (suc i) row
+slack_kept p n i source row count same wide columns mine last = record {
+  width = wide ∙ ap (λ (k : ℕ). k + 2) count;
+  columns = λ j h. columns j (omega (arith, h, count)) ∙ ap (λ (r : Row). neg_ℤ (coefficient r.terms j)) same
+    ∙ sym (slack_variable (length p.costs) (length p.rows) i (get_or p.rows i empty_row) (1 + j) (omega arith) (omega (arith, h)) ∙ ap (λ (k : ℕ). neg_ℤ (coefficient (get_or p.rows i empty_row).terms k)) (after j));
+  own = ap (λ (k : ℕ). get_or row k (pos 0)) (sym count) ∙ mine;
+  right = ap (λ (k : ℕ). get_or row (k + 1) (pos 0)) (sym count) ∙ last ∙ ap (λ (r : Row). r.constant) same ∙ sym (slack_constant (length p.costs) (length p.rows) i (get_or p.rows i empty_row) (variable_count p) refl);
+}
+  where
+    after : (j : ℕ) → 1 + j - 1 ≡ j
+    after j = omega arith
 
 pub rows_none : (p : Program) (pairs : List (Option Pair)) → AreFirstRows p pairs 0 []
 rows_none p pairs = record { height = refl; each = λ e h none. absurd (omega (arith, h)) }
@@ -106,18 +169,27 @@ rows_more p pairs rows row e f are h none is = record {
 }
 
 -- and one with none
-pub rows_past : (p : Program) (pairs : List (Option Pair)) (rows : List (List ℤ)) (e f : ℕ) → AreFirstRows p pairs e rows → e + 1 ≡ f → is_some (pair_in pairs (first_basic (length p.costs) e)) ≡ true → AreFirstRows p pairs f rows
-rows_past p pairs rows e f are h some = record {
-  height = are.height ∙ sym (slots_more (length p.costs) pairs e f h ∙ ap (λ (n : ℕ). slots_before (length p.costs) pairs e + n) (no_slot (pair_in pairs (first_basic (length p.costs) e)) some) ∙ omega arith);
+rows_past : (p : Program) (pairs : List (Option Pair)) (rows : List (List ℤ)) (e f : ℕ) → AreFirstRows p pairs e rows → e + 1 ≡ f → (q : Pair) → pair_in pairs (first_basic (length p.costs) e) ≡ Some q → AreFirstRows p pairs f rows
+rows_past p pairs rows e f are h q some = record {
+  height = are.height ∙ sym (slots_more (length p.costs) pairs e f h ∙ ap (λ (x : Option Pair). slots_before (length p.costs) pairs e + slots_for x) some ∙ omega arith);
   each = λ d l none. ⊎_elim
-    (λ (same : d ≡ e). let g : false ≡ true = sym (ap is_some none) ∙ ap (λ (x : ℕ). is_some (pair_in pairs (first_basic (length p.costs) x))) same ∙ some in cc)
+    (λ (same : d ≡ e). let g : None ≡ Some q = sym none ∙ ap (λ (x : ℕ). pair_in pairs (first_basic (length p.costs) x)) same ∙ some in cc)
     (λ apart. are.each d (omega (arith, l, h, apart)) none)
     (cases_eq d e);
 }
-  where
-    no_slot : (q : Option Pair) → is_some q ≡ true → slots_for q ≡ 0
-    no_slot None e = cc
-    no_slot (Some q) e = refl
+
+-- the rows of the first so many equations, at the slack of the row i
+module _ (p : Program) (pairs : List (Option Pair)) (rows : List (List ℤ)) (n i : ℕ) (r : Bool) (count : n ≡ length p.costs) (are : AreFirstRows p pairs (i + 1) rows) (test : is_some (pair_in pairs (1 + n + i)) ≡ not r) where
+  slack_is : 1 + n + i ≡ first_basic (length p.costs) (i + 1)
+  slack_is = sym (basic_is (length p.costs) (i + 1) (1 + n + i) (omega (arith, count)) (omega arith))
+
+  pub row_added : r ≡ true → (row : List ℤ) → IsFirstRow p (suc i) row → AreFirstRows p pairs (i + 1 + 1) (rows ++ row ∷ [])
+  row_added e row is =
+      rows_more p pairs rows row (i + 1) (i + 1 + 1) are refl (sym (ap (pair_in pairs) slack_is) ∙ none_of (pair_in pairs (1 + n + i)) r test e)
+      (let same : suc i ≡ i + 1 = omega arith in subst (λ (x : ℕ). IsFirstRow p x row) same is)
+
+  pub row_left_out : r ≡ false → AreFirstRows p pairs (i + 1 + 1) rows
+  row_left_out e = let found = some_of (pair_in pairs (1 + n + i)) r test e in rows_past p pairs rows (i + 1) (i + 1 + 1) are refl found.0 (sym (ap (pair_in pairs) slack_is) ∙ found.1)
 
 -- ---- a row's columns: one term more is written
 front_apart : (terms : List Term) (i : ℕ) (d : Term) → i < length terms → AllPairs (λ s t. s.variable ≢ t.variable) terms → All (λ u. u.variable ≢ (get_or terms i d).variable) (take i terms)
