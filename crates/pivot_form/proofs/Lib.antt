@@ -15,3 +15,6 @@ pub mod Flips
 pub mod Steps
 pub mod Shorts
 pub mod WholeRows
+pub mod ClassPairs
+pub mod FirstSlots
+pub mod Starts

@@ -10,9 +10,11 @@ mod clearing;
 mod exchanges;
 mod first;
 mod form;
+mod pairs;
 mod places;
 mod rows;
 mod short;
+mod start;
 mod whole_rows;
 
 pub use form::{Form, Wide};
