@@ -10,6 +10,7 @@ mod clearing;
 mod exchanges;
 mod first;
 mod form;
+mod narrow;
 mod pairs;
 mod places;
 mod rows;

@@ -1,5 +1,6 @@
 // The pairs of a program's variables and slacks.
 ghost use Rattle.std.specs.Prelude.{◌≡◌, ◌<◌, length, IfOk, IfSome};
+ghost use Rattle.pivot_form.specs.Shorts.{AreSumsUpTo};
 ghost use Rattle.pivot_form.specs.Starts.{ArePairs, IsClassRow, paired_up};
 
 use crate::places::Pair;
@@ -53,4 +54,17 @@ fn pair_up(pairs: &mut [Option<Pair>], variable: usize, slack: usize, sum: i64)
             sum,
         });
     }
+}
+
+/// The greatest size of a pair's sum.
+pub(crate) fn most_sum(pairs: &[Option<Pair>]) -> u64
+    ensures { AreSumsUpTo result pairs.now }
+{
+    let mut most = 0;
+    for pair in pairs {
+        if let Some(pair) = pair {
+            most = most.max(pair.sum.unsigned_abs());
+        }
+    }
+    most
 }

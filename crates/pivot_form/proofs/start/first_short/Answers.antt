@@ -1,0 +1,1 @@
+use Rattle.pivot_form.proofs.start.first_short.Goals as goal
