@@ -380,3 +380,19 @@ module _ (p : Program) (pairs : List (Option Pair)) (rows : List (List ℤ)) (ar
     store = start_store;
     form = subst IsForm (sym start_is_first) (first_is_form p);
   }
+
+-- ---- as code puts it together
+abbrev store : ℕ → List ℕ → List Place → List (Option Pair) → List (List ℤ) → Store
+store width basis places pairs rows = record { width = width; basis = basis; places = places; pairs = pairs; rows = rows }
+
+pub made_start : (p : Program) (width height : ℕ) (basis : List ℕ) (places : List Place) (pairs lent : List (Option Pair)) (rows : List (List ℤ)) → width ≡ length p.costs → height ≡ length p.rows → lent ≡ pairs
+    → ArePairs (length p.costs) p.rows (length p.rows) pairs → basis ≡ map (first_basic width) (range_with_len 0 (height + 1)) → places ≡ map (first_place width lent) (range_with_len 0 (length lent))
+    → store width basis places pairs rows ≡ start_of p pairs rows
+made_start p width height basis places pairs lent rows e f g are basis_is places_are =
+    ap (λ (x : ℕ). store x basis places pairs rows) e
+    ∙ ap (λ (x : List ℕ). store (length p.costs) x places pairs rows) (basis_is ∙ ap (λ (x : ℕ). map (first_basic x) (range_with_len 0 (height + 1))) e ∙ ap (λ (x : ℕ). map (first_basic (length p.costs)) (range_with_len 0 (x + 1))) f)
+    ∙ ap (λ (x : List Place). store (length p.costs) (first_form p).basis x pairs rows)
+      (places_are
+       ∙ ap (λ (x : ℕ). map (first_place x lent) (range_with_len 0 (length lent))) e
+       ∙ ap (λ (x : List (Option Pair)). map (first_place (length p.costs) x) (range_with_len 0 (length x))) g
+       ∙ ap (λ (x : ℕ). map (first_place (length p.costs) pairs) (range_with_len 0 x)) are.width)
