@@ -39,11 +39,7 @@ pub(crate) fn first_short(alloc: Global, program: &Program) -> Result<Short, Mem
 
 /// Where each variable stands: the cost in the first slot, the program's variables in their columns, and each slack that is
 /// no pair's in a slot of its own.
-fn places_of(
-    alloc: Global,
-    variables: usize,
-    pairs: &[Option<Pair>],
-) -> Result<Vec<Place>, Memory>
+fn places_of(alloc: Global, variables: usize, pairs: &[Option<Pair>]) -> Result<Vec<Place>, Memory>
     requires wide { variables < length pairs.now }
     requires cost { slice_index_or pairs.now 0 None ≡ None }
     ensures { IfOk result (λ places.

@@ -1,8 +1,7 @@
 use Rattle.std.proofs.Common.{◌≡◌, ◌+◌, ◌∙◌, ap, sym, subst, get_or, length, List, Option, None}
-use Rattle.row_program.specs.Forms.{first_form}
 use Rattle.pivot_form.specs.declared.places.Pair.{Pair}
 use Rattle.pivot_form.specs.Invariant.{row_lists}
-use Rattle.pivot_form.specs.Kept.{Store, table_of}
+use Rattle.pivot_form.specs.Kept.{table_of}
 use Rattle.pivot_form.specs.Shorts.{IsShort, store_of}
 use Rattle.pivot_form.specs.Starts.{AreFirstRows}
 use Rattle.pivot_form.proofs.Starts.{made_start, no_cost_pair, start_is_first, start_of, start_short}
