@@ -1,5 +1,5 @@
 -- The slots of a program's first form.
-use Rattle.std.proofs.Common.{ℕ, zero, suc, ◌≡◌, ◌≢◌, ◌<◌, ◌≤◌, ◌+◌, ◌-◌, ◌++◌, arith, refl, ap, sym, ◌∙◌, ⊎_elim, subst, List, [], ◌∷◌, length, get_or, Some, None, Option, true, false, Bool, cond, not, map, set, take, length-append}
+use Rattle.std.proofs.Common.{ℕ, zero, suc, ◌≡◌, ◌≢◌, ◌<◌, ◌≤◌, ◌+◌, ◌-◌, ◌++◌, arith, refl, ap, sym, ◌∙◌, ⊎_elim, subst, List, [], ◌∷◌, length, get_or, Some, None, Option, true, false, Bool, cond, drop, not, map, set, take, length-append}
 use Rattle.std.specs.Prelude.{ℤ, pos, ◌+ℤ◌, ◌==◌, is_some}
 use lib.IntN.{neg_ℤ}
 use Rattle.std.specs.List.{All, AllPairs, range_with_len}
@@ -7,7 +7,7 @@ use Rattle.std.proofs.lemmas.List.FromFn.{map-range_with_len_more}
 use Rattle.std.proofs.lemmas.Int.{ints}
 use Rattle.std.proofs.lemmas.Bool.{cases_eq, cases_lt}
 use Rattle.std.proofs.lemmas.Bool.Decides.{nat_tests}
-use Rattle.std.proofs.lemmas.List.{get_or_append_left, get_or-append_right, get_or_default, get_or-set_other, get_or-set_same, get_or-take, length-take}
+use Rattle.std.proofs.lemmas.List.{get_or_append_left, get_or-append_right, get_or_default, get_or-drop, get_or-set_other, get_or-set_same, get_or-take, length-take}
 use Rattle.row_program.specs.declared.program.Term.{Term}
 use Rattle.row_program.specs.declared.program.Row.{Row}
 use Rattle.row_program.specs.declared.program.Program.{Program}
@@ -87,6 +87,12 @@ place_pushed n pairs v x old new e f g =
     ∙ ap (λ (xs : List Place). xs ++ x ∷ []) f
     ∙ ap (λ (y : Place). map (first_place n pairs) (range_with_len 0 v) ++ y ∷ []) (sym g)
     ∙ sym (map-range_with_len_more (first_place n pairs) 0 v v (omega arith))
+
+-- an item of what is left of the pairs behind the first a
+pub item_behind : (pairs : List (Option Pair)) (a i : ℕ) → i < length (take (length pairs - a) (drop a pairs)) → get_or (take (length pairs - a) (drop a pairs)) i None ≡ pair_in pairs (a + i)
+item_behind pairs a i h =
+    let low : i < length pairs - a = omega (arith, h, length-take (length pairs - a) (drop a pairs)) in
+    get_or-take (length pairs - a) (drop a pairs) i None low ∙ get_or-drop a pairs i None
 
 -- ---- what a test for a pair says
 none_of : (q : Option Pair) (r : Bool) → is_some q ≡ not r → r ≡ true → q ≡ None

@@ -51,8 +51,8 @@ fn places_of(alloc: Global, variables: usize, pairs: &[Option<Pair>]) -> Result<
         places.push(Place::Column(column))?;
     }
     let mut slot = 1;
-    for slack in 1 + variables..pairs.len() {
-        if pairs[slack].is_none() {
+    for pair in &pairs[1 + variables..] {
+        if pair.is_none() {
             places.push(Place::Kept(slot))?;
             slot += 1;
         } else {
