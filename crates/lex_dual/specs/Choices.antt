@@ -1,9 +1,10 @@
--- The table of rows, and the choices as they are made, one row or one column at a time: what the calls inside the crate say to
--- each other. No promise to a caller rests on these.
-use Rattle.std.specs.Prelude.{ℕ, pos, ◌<◌, ◌≤◌, ◌<ℤ◌, ◌≤ℤ◌, List, map, Bool, if◌then◌else◌, Option, Some, None}
+-- The table of rows, and the choices as they are made, one row or one variable at a time: what the calls inside the
+-- crate say to each other. No promise to a caller rests on these.
+use Rattle.std.specs.Prelude.{ℕ, pos, ◌<◌, ◌≤◌, ◌-◌, ◌<ℤ◌, ◌≤ℤ◌, List, map, Bool, Option, Some, None}
+use lib.IntN.{neg_ℤ}
 use Rattle.std.specs.List.{range_with_len}
-use Rattle.row_program.specs.Forms.{Table, right_side, basic_of}
-use Rattle.row_program.specs.Method.{row_of_basic, value_count}
+use Rattle.row_program.specs.Forms.{Table, entry, right_side, basic_of}
+use Rattle.row_program.specs.Method.{row_of_basic, value_count, column, difference, lex_negative, first_least_of}
 
 -- the row of the cost and of each variable of the program, where it is basic
 abbrev pub places_of : Table → List (Option ℕ)
@@ -16,7 +17,16 @@ IsFirstNegative t n (Some b) =
     (b < n) × (right_side t b <ℤ pos 0)
     × ((i : ℕ) → i < n → right_side t i <ℤ pos 0 → basic_of t b ≤ basic_of t i)
 
--- the candidate, or the best one so far where the candidate doesn't come before it
-abbrev pub lesser_of : (ℕ → ℕ → Bool) → Option ℕ → ℕ → ℕ
-lesser_of before None j = j
-lesser_of before (Some best) j = if before j best then j else best
+-- the variable has a positive coefficient in the row
+abbrev pub IsCandidate : Table → ℕ → ℕ → Type 0
+IsCandidate t row j = (j < t.variables) × (entry t row j <ℤ pos 0)
+
+-- the column of j comes before that of k by the variables from v on, each divided by its own coefficient in the row
+abbrev pub comes_before_from : Table → ℕ → ℕ → ℕ → ℕ → Bool
+comes_before_from t row v j k =
+    lex_negative (value_count t - v) v
+    (difference (column t j) (neg_ℤ (entry t row j)) (column t k) (neg_ℤ (entry t row k)))
+
+-- the first of those candidates whose columns are least by the variables from v on
+abbrev pub entering_among : Table → ℕ → ℕ → List ℕ → Option ℕ
+entering_among t row v js = first_least_of (comes_before_from t row v) js

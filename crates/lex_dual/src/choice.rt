@@ -1,13 +1,16 @@
 // What leaves and what enters.
-ghost use Rattle.std.specs.Prelude.{◌≡◌, ◌<◌, ◌+◌, ℤ, pos, ◌<ℤ◌, length, unsigned_abs, IfSome};
+ghost use Rattle.std.specs.Prelude.{◌≡◌, ◌<◌, ◌≤◌, ◌+◌, ℤ, pos, ◌<ℤ◌, length, take, unsigned_abs, vec_capacity, IfSome, IfOk};
+ghost use Rattle.std.specs.List.{All};
 ghost use lib.IntN.{neg_ℤ};
 ghost use Rattle.row_program.specs.Forms.{entry};
-ghost use Rattle.row_program.specs.Method.{leaving, entering, comes_before, column, difference};
+ghost use Rattle.row_program.specs.Method.{leaving, entering, candidates, column};
 ghost use Rattle.pivot_form.specs.Invariant.{IsForm};
-ghost use Rattle.lex_dual.specs.Choices.{places_of, IsFirstNegative, lesser_of};
+ghost use Rattle.lex_dual.specs.Choices.{places_of, IsFirstNegative, IsCandidate, entering_among};
 
 use exact_num::{WIDE, cross};
+use mov_base::Memory;
 use pivot_form::Form;
+use std::alloc::Global;
 
 /// The row of the first negative basic variable, in the order of variables: one pass over the rows.
 pub(crate) fn leaving(form: &Form) -> Option<usize>
@@ -38,92 +41,117 @@ fn earlier(form: &Form, found: Option<usize>, row: usize) -> Option<usize>
     }
 }
 
-/// The first of the least candidates of the row: one pass over the columns.
-pub(crate) fn entering(form: &Form, places: &[Option<usize>], row: usize) -> Option<usize>
-    requires form { IsForm form.now }
-    requires places { places.now ≡ places_of form.now }
-    requires row { row < length form.now.rows }
-    ensures value { result ≡ entering form.now row }
-    ensures candidate { IfSome result (λ j. (j < form.now.variables) × (entry form.now row j <ℤ pos 0)) }
+/// A buffer for the candidates of any row of the form.
+pub(crate) fn candidate_buffer(alloc: Global, form: &Form) -> Result<Vec<usize>, Memory>
+    ensures { IfOk result (λ buffer. form.now.variables ≤ vec_capacity buffer) }
 {
-    let mut best = None;
-    for j in 0..form.variable_count() {
-        if form.entry(row, j) < 0 {
-            best = Some(lesser(form, places, row, best, j));
-        }
-    }
-    best
+    Ok(Vec::with_capacity(alloc, form.variable_count())?)
 }
 
-/// The candidate, where its column comes before that of the best one so far or there is none, and else the latter.
-fn lesser(
+/// The first of the least candidates of the row. All are written into the buffer, and thinned out there, variable by
+/// variable, until one is left.
+pub(crate) fn entering(
     form: &Form,
     places: &[Option<usize>],
     row: usize,
-    best: Option<usize>,
-    candidate: usize,
+    buffer: &mut Vec<usize>,
+) -> Option<usize>
+    requires form { IsForm form.now }
+    requires places { places.now ≡ places_of form.now }
+    requires row { row < length form.now.rows }
+    requires room { form.now.variables ≤ vec_capacity buffer.old }
+    ensures value { result ≡ entering form.now row }
+    ensures candidate { IfSome result (λ j. (j < form.now.variables) × (entry form.now row j <ℤ pos 0)) }
+    ensures room { form.now.variables ≤ vec_capacity buffer.new }
+{
+    write_candidates(form, row, buffer);
+    for v in 0..places.len() {
+        if buffer.len() < 2 {
+            break;
+        }
+        let kept = thin_out(form, places, row, v, buffer.as_mut_slice());
+        buffer.truncate(kept);
+    }
+    buffer.first().copied()
+}
+
+/// Writes the candidates of the row into the buffer, in place of what it held: one pass over the columns.
+fn write_candidates(form: &Form, row: usize, buffer: &mut Vec<usize>)
+    requires row { row < length form.now.rows }
+    requires room { form.now.variables ≤ vec_capacity buffer.old }
+    ensures value { buffer.new.items ≡ candidates form.now row }
+    ensures all { All (IsCandidate form.now row) buffer.new.items }
+    ensures room { form.now.variables ≤ vec_capacity buffer.new }
+{
+    buffer.clear();
+    for j in 0..form.variable_count() {
+        if form.entry(row, j) < 0 {
+            buffer.push(j).unwrap();
+        }
+    }
+}
+
+/// Moves those candidates to the front whose coefficient of the variable v over their own is least, in their order, and
+/// counts them: one pass.
+fn thin_out(
+    form: &Form,
+    places: &[Option<usize>],
+    row: usize,
+    v: usize,
+    left: &mut [usize],
 ) -> usize
     requires form { IsForm form.now }
     requires places { places.now ≡ places_of form.now }
     requires row { row < length form.now.rows }
-    requires best { IfSome best (λ j. (j < form.now.variables) × (entry form.now row j <ℤ pos 0)) }
-    requires within { candidate < form.now.variables }
-    requires candidate { entry form.now row candidate <ℤ pos 0 }
-    ensures value { result ≡ lesser_of (comes_before form.now row) best candidate }
-    ensures within { result < form.now.variables }
-    ensures candidate { entry form.now row result <ℤ pos 0 }
+    requires v { v < length places.now }
+    requires some { 0 < length left.old }
+    requires all { All (IsCandidate form.now row) left.old }
+    ensures value { entering_among form.now row (v + 1) (take result left.new)
+        ≡ entering_among form.now row v left.old }
+    ensures all { All (IsCandidate form.now row) (take result left.new) }
 {
-    match best {
-        Some(best) if !comes_before(form, places, row, candidate, best) => best,
-        _ => candidate,
-    }
-}
-
-/// Whether the column of j comes before that of k, each divided by its variable's coefficient in the row.
-fn comes_before(form: &Form, places: &[Option<usize>], row: usize, j: usize, k: usize) -> bool
-    requires form { IsForm form.now }
-    requires places { places.now ≡ places_of form.now }
-    requires row { row < length form.now.rows }
-    requires j { j < form.now.variables }
-    requires k { k < form.now.variables }
-    ensures { result ≡ comes_before form.now row j k }
-{
-    for v in 0..places.len() {
-        let difference = difference_at(form, places, row, j, k, v);
-        if difference != 0 {
-            return difference < 0;
+    let mut least = quotient_at(form, places, row, v, left[0]);
+    let mut kept = 1;
+    for i in 1..left.len() {
+        let candidate = left[i];
+        let quotient = quotient_at(form, places, row, v, candidate);
+        let difference = cross(quotient.num, least.den, least.num, quotient.den);
+        if difference < 0 {
+            least = quotient;
+            left[0] = candidate;
+            kept = 1;
+        } else if difference == 0 {
+            left[kept] = candidate;
+            kept += 1;
         }
     }
-    false
+    kept
 }
 
-/// How far the coefficient of the variable v in j is above that in k, each divided by its variable's coefficient in the
-/// row, times both of the latter.
-fn difference_at(
-    form: &Form,
-    places: &[Option<usize>],
-    row: usize,
-    j: usize,
-    k: usize,
-    v: usize,
-) -> i128
+/// A variable's coefficient in a candidate, and the candidate's own in the row, which divides it.
+#[derive(Clone, Copy, Debug)]
+struct Quotient {
+    num: i64,
+    den: i64,
+}
+
+/// The coefficient of the variable v in the candidate j, and that of j in the row.
+fn quotient_at(form: &Form, places: &[Option<usize>], row: usize, v: usize, j: usize) -> Quotient
     requires form { IsForm form.now }
     requires places { places.now ≡ places_of form.now }
     requires row { row < length form.now.rows }
-    requires j { j < form.now.variables }
-    requires k { k < form.now.variables }
     requires v { v < length places.now }
-    ensures { result ≡ difference (column form.now j) (neg_ℤ (entry form.now row j))
-        (column form.now k) (neg_ℤ (entry form.now row k)) v }
+    requires candidate { IsCandidate form.now row j }
+    ensures num { result.num ≡ column form.now j v }
+    ensures den { result.den ≡ neg_ℤ (entry form.now row j) }
+    ensures positive { pos 0 <ℤ result.den }
+    ensures small_num { unsigned_abs result.num < WIDE }
+    ensures small_den { unsigned_abs result.den < WIDE }
 {
-    let left = coefficient(form, places, j, v);
-    let right = coefficient(form, places, k, v);
-    cross(
-        left,
-        opposite(form.entry(row, k)),
-        right,
-        opposite(form.entry(row, j)),
-    )
+    Quotient {
+        num: coefficient(form, places, j, v),
+        den: opposite(form.entry(row, j)),
+    }
 }
 
 /// The coefficient of the variable v, one that has a value, in the variable j, times the basic entry of the row of v.

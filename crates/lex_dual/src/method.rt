@@ -10,7 +10,7 @@ ghost use Rattle.lex_dual.specs.Faults.{IfWide};
 ghost use Rattle.lex_dual.specs.Answers.{OnBest, OnNever, multipliers_in, HasNoPoint, IsReadAtBest, IsReadAtNever};
 ghost use Rattle.lex_dual.specs.Reached.{IsReached};
 
-use crate::choice::{entering, leaving};
+use crate::choice::{candidate_buffer, entering, leaving};
 use crate::multipliers::multipliers;
 use crate::places::{exchange, first_places};
 use crate::point::point;
@@ -49,8 +49,9 @@ pub fn solve(alloc: Global, program: &Program) -> Result<Solved, SolveFault>
 {
     let mut form = Form::start(alloc, program)?;
     let mut places = first_places(alloc, program)?;
+    let mut buffer = candidate_buffer(alloc, &form)?;
     while let Some(row) = leaving(&form) {
-        let Some(column) = entering(&form, places.as_slice(), row) else {
+        let Some(column) = entering(&form, places.as_slice(), row, &mut buffer) else {
             return never(alloc, program, &form, row);
         };
         exchange(places.as_mut_slice(), &form, row, column);

@@ -119,7 +119,7 @@ turned_by column row apart = by_sign (get_or row column (pos 0)) refl
         (negsuc 0, is, omega (arith, ints, is.entries column, e))
 
 -- ---- a row that is cleared already
-scaled_zero : (p : ℤ) (row lead : List ℤ) → length lead ≡ length row → combination p row (pos 0) lead ≡ map (λ x. p *ℤ x) row
+pub scaled_zero : (p : ℤ) (row lead : List ℤ) → length lead ≡ length row → combination p row (pos 0) lead ≡ map (λ x. p *ℤ x) row
 scaled_zero p [] lead h = refl
 scaled_zero p (x ∷ row) [] h = absurd (omega (arith, h))
 scaled_zero p (x ∷ row) (y ∷ lead) h =

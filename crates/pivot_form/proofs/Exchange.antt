@@ -77,18 +77,18 @@ module _ (w j : ℕ) (lead row : List ℤ) (wide : length lead ≡ w + 2) (long 
 
   mix_column : get_or (mix w j lead row) j (pos 0) ≡ get_or lead j (pos 0) *ℤ pos 0 -ℤ get_or row j (pos 0) *ℤ get_or lead w (pos 0)
   mix_column = mix_at j (omega (arith, inside))
-    ∙ ap (λ (x : ℤ). get_or lead j (pos 0) *ℤ x -ℤ get_or row j (pos 0) *ℤ get_or (moved w j lead) j (pos 0)) (get_or-set_same row j (pos 0) (pos 0) (omega (arith, inside, long)))
-    ∙ ap (λ (x : ℤ). get_or lead j (pos 0) *ℤ pos 0 -ℤ get_or row j (pos 0) *ℤ x) (moved_column w j lead wide inside)
+      ∙ ap (λ (x : ℤ). get_or lead j (pos 0) *ℤ x -ℤ get_or row j (pos 0) *ℤ get_or (moved w j lead) j (pos 0)) (get_or-set_same row j (pos 0) (pos 0) (omega (arith, inside, long)))
+      ∙ ap (λ (x : ℤ). get_or lead j (pos 0) *ℤ pos 0 -ℤ get_or row j (pos 0) *ℤ x) (moved_column w j lead wide inside)
 
   mix_own : get_or (mix w j lead row) w (pos 0) ≡ get_or lead j (pos 0) *ℤ get_or row w (pos 0) -ℤ get_or row j (pos 0) *ℤ pos 0
   mix_own = mix_at w (omega arith)
-    ∙ ap (λ (x : ℤ). get_or lead j (pos 0) *ℤ x -ℤ get_or row j (pos 0) *ℤ get_or (moved w j lead) w (pos 0)) (get_or-set_other row j w (pos 0) (pos 0) (λ e. omega (arith, e, inside)))
-    ∙ ap (λ (x : ℤ). get_or lead j (pos 0) *ℤ get_or row w (pos 0) -ℤ get_or row j (pos 0) *ℤ x) (moved_own w j lead wide inside)
+      ∙ ap (λ (x : ℤ). get_or lead j (pos 0) *ℤ x -ℤ get_or row j (pos 0) *ℤ get_or (moved w j lead) w (pos 0)) (get_or-set_other row j w (pos 0) (pos 0) (λ e. omega (arith, e, inside)))
+      ∙ ap (λ (x : ℤ). get_or lead j (pos 0) *ℤ get_or row w (pos 0) -ℤ get_or row j (pos 0) *ℤ x) (moved_own w j lead wide inside)
 
   mix_other : (i : ℕ) → i < w + 2 → i ≢ j → i ≢ w → get_or (mix w j lead row) i (pos 0) ≡ get_or lead j (pos 0) *ℤ get_or row i (pos 0) -ℤ get_or row j (pos 0) *ℤ get_or lead i (pos 0)
   mix_other i l off away = mix_at i l
-    ∙ ap (λ (x : ℤ). get_or lead j (pos 0) *ℤ x -ℤ get_or row j (pos 0) *ℤ get_or (moved w j lead) i (pos 0)) (get_or-set_other row j i (pos 0) (pos 0) off)
-    ∙ ap (λ (x : ℤ). get_or lead j (pos 0) *ℤ get_or row i (pos 0) -ℤ get_or row j (pos 0) *ℤ x) (moved_other w j lead wide inside i off away)
+      ∙ ap (λ (x : ℤ). get_or lead j (pos 0) *ℤ x -ℤ get_or row j (pos 0) *ℤ get_or (moved w j lead) i (pos 0)) (get_or-set_other row j i (pos 0) (pos 0) off)
+      ∙ ap (λ (x : ℤ). get_or lead j (pos 0) *ℤ get_or row i (pos 0) -ℤ get_or row j (pos 0) *ℤ x) (moved_other w j lead wide inside i off away)
 
   module _ (above : pos 0 <ℤ get_or lead j (pos 0)) (mine : pos 0 <ℤ get_or row w (pos 0)) where
     own_above : pos 0 <ℤ get_or (mix w j lead row) w (pos 0)
@@ -96,10 +96,10 @@ module _ (w j : ℕ) (lead row : List ℤ) (wide : length lead ≡ w + 2) (long 
 
     pub divisor_above : 0 < row_gcd (mix w j lead row)
     divisor_above = ⊎_elim
-      (λ (none : row_gcd (mix w j lead row) ≡ 0). let all = zero_fold 0 (mix w j lead row) none in
+        (λ (none : row_gcd (mix w j lead row) ≡ 0). let all = zero_fold 0 (mix w j lead row) none in
         let gone : get_or (mix w j lead row) w (pos 0) ≡ pos 0 = all.1 w (pos 0) (omega (arith, mix_width)) in absurd (omega (arith, ints, gone, own_above)))
-      (λ some. omega (arith, some))
-      (cases_eq (row_gcd (mix w j lead row)) 0)
+        (λ some. omega (arith, some))
+        (cases_eq (row_gcd (mix w j lead row)) 0)
 
     pub cleared_width : length (cleared w j lead row) ≡ w + 2
     cleared_width = length-map (mix w j lead row) _ ∙ mix_width
@@ -110,11 +110,11 @@ module _ (w j : ℕ) (lead row : List ℤ) (wide : length lead ≡ w + 2) (long 
     -- the divisor times what is kept
     pub cleared_at : (i : ℕ) → i < w + 2 → pos (row_gcd (mix w j lead row)) *ℤ get_or (cleared w j lead row) i (pos 0) ≡ get_or (mix w j lead row) i (pos 0)
     cleared_at i l = same (times (leaf (pos (row_gcd (mix w j lead row)))) (leaf (get_or (cleared w j lead row) i (pos 0)))) (times (leaf (get_or (cleared w j lead row) i (pos 0))) (leaf (pos (row_gcd (mix w j lead row))))) (omega arith)
-      ∙ primitive_entry (mix w j lead row) i (pos 0) (omega (arith, l, mix_width))
+        ∙ primitive_entry (mix w j lead row) i (pos 0) (omega (arith, l, mix_width))
 
     pub cleared_own : pos 0 <ℤ get_or (cleared w j lead row) w (pos 0)
     cleared_own = let e = cleared_at w (omega arith) in
-      positive_factor (pos (row_gcd (mix w j lead row))) (get_or (cleared w j lead row) w (pos 0)) (omega (arith, ints, divisor_above)) (omega (arith, ints, own_above, e))
+        positive_factor (pos (row_gcd (mix w j lead row))) (get_or (cleared w j lead row) w (pos 0)) (omega (arith, ints, divisor_above)) (omega (arith, ints, own_above, e))
 
 -- ---- the slots after the exchange
 slot_row : (width j : ℕ) (lead : List ℤ) (slot : Option ℕ) (k l : ℕ) (row : List ℤ) → slot ≡ Some l → l ≡ k → next_short width j lead slot k row ≡ taken width j lead
@@ -159,7 +159,7 @@ spread g x p a q b y e =
     ∙ same (times (minus (times P A) (times Q B)) Y) (minus (times P (times A Y)) (times Q (times B Y))) (omega arith)
 
 -- an entry that a slot doesn't keep
-not_kept : (s : Store) (k : ℕ) (p : Place) → p ≢ Kept k → ((j : ℕ) → p ≢ Column j) → entry_at s k p ≡ pos 0
+pub not_kept : (s : Store) (k : ℕ) (p : Place) → p ≢ Kept k → ((j : ℕ) → p ≢ Column j) → entry_at s k p ≡ pos 0
 not_kept s k (Column j) apart no_column = absurd (no_column j refl)
 not_kept s k (Kept l) apart no_column =
     ⊎_elim (λ (e : l ≡ k). absurd (apart (ap Kept e))) (λ off. grind (arith, nat_tests)) (cases_eq l k)
@@ -193,9 +193,9 @@ module _ (s : Store) (r b e j : ℕ) (sign : ℤ) (lead : List ℤ) (slot : Opti
     pairs = refl;
     slots = length-map_from (next_short s.width j lead slot) 0 s.rows;
     may = ⊎_elim
-      (λ (kept : (k : ℕ) × (slot ≡ Some k) × (place_of s b ≡ Kept k)). inl (λ q. kept_paired kept.0 (sym kept.2 ∙ q)))
-      (λ paired. inr paired.2)
-      may.slot_is;
+        (λ (kept : (k : ℕ) × (slot ≡ Some k) × (place_of s b ≡ Kept k)). inl (λ q. kept_paired kept.0 (sym kept.2 ∙ q)))
+        (λ paired. inr paired.2)
+        may.slot_is;
   }
     where
       kept_paired : (k : ℕ) → Kept k ≡ Paired → ⊥
@@ -223,15 +223,15 @@ module _ (s : Store) (r b e j : ℕ) (sign : ℤ) (lead : List ℤ) (slot : Opti
   -- which slot the leaving variable has
   not_leaving : (k : ℕ) → slot ≢ Some k → place_of s b ≢ Kept k
   not_leaving k q f = ⊎_elim
-    (λ (kept : (l : ℕ) × (slot ≡ Some l) × (place_of s b ≡ Kept l)). let g : Kept kept.0 ≡ Kept k = sym kept.2 ∙ f in let h : kept.0 ≡ k = cc in q (kept.1 ∙ ap Some h))
-    (λ paired. let g : Paired ≡ Kept k = sym paired.1 ∙ f in cc)
-    may.slot_is
+      (λ (kept : (l : ℕ) × (slot ≡ Some l) × (place_of s b ≡ Kept l)). let g : Kept kept.0 ≡ Kept k = sym kept.2 ∙ f in let h : kept.0 ≡ k = cc in q (kept.1 ∙ ap Some h))
+      (λ paired. let g : Paired ≡ Kept k = sym paired.1 ∙ f in cc)
+      may.slot_is
 
   its_slot : (k : ℕ) → slot ≡ Some k → place_of s b ≡ Kept k
   its_slot k q = ⊎_elim
-    (λ (kept : (l : ℕ) × (slot ≡ Some l) × (place_of s b ≡ Kept l)). let g : Some kept.0 ≡ Some k = sym kept.1 ∙ q in let h : kept.0 ≡ k = cc in kept.2 ∙ ap Kept h)
-    (λ paired. absurd (none_some k (sym paired.0 ∙ q)))
-    may.slot_is
+      (λ (kept : (l : ℕ) × (slot ≡ Some l) × (place_of s b ≡ Kept l)). let g : Some kept.0 ≡ Some k = sym kept.1 ∙ q in let h : kept.0 ≡ k = cc in kept.2 ∙ ap Kept h)
+      (λ paired. absurd (none_some k (sym paired.0 ∙ q)))
+      may.slot_is
 
   -- ---- another slot
   module _ (k : ℕ) (slot_within : k < length s.rows) (other : slot ≢ Some k) where
@@ -249,7 +249,7 @@ module _ (s : Store) (r b e j : ℕ) (sign : ℤ) (lead : List ℤ) (slot : Opti
 
     cell_now : (i : ℕ) → i < s.width + 2 → divisor *ℤ cell (exchanged s r b e j lead slot) k i ≡ get_or (mix s.width j lead (short_row s k)) i (pos 0)
     cell_now i l = ap (λ (xs : List ℤ). divisor *ℤ get_or xs i (pos 0)) (short_other k slot_within other)
-      ∙ cleared_at s.width j lead (short_row s k) may.lead_is.width long inside may.lead_is.positive (is.positive k slot_within) i l
+        ∙ cleared_at s.width j lead (short_row s k) may.lead_is.width long inside may.lead_is.positive (is.positive k slot_within) i l
 
     entering_cell : kept_entry s k e ≡ cell s k j
     entering_cell = ap (entry_at s k) may.column
@@ -269,7 +269,7 @@ module _ (s : Store) (r b e j : ℕ) (sign : ℤ) (lead : List ℤ) (slot : Opti
     at_entering : divisor *ℤ kept_entry (exchanged s r b e j lead slot) k e ≡ get_or lead j (pos 0) *ℤ kept_entry s k e -ℤ kept_entry s k e *ℤ lead_at e
     at_entering =
         zero_times divisor (kept_entry (exchanged s r b e j lead slot) k e)
-          (ap (entry_at (exchanged s r b e j lead slot) k) swap.entering_place ∙ not_kept (exchanged s r b e j lead slot) k (place_of s b) (not_leaving k other) no_column)
+        (ap (entry_at (exchanged s r b e j lead slot) k) swap.entering_place ∙ not_kept (exchanged s r b e j lead slot) k (place_of s b) (not_leaving k other) no_column)
         ∙ same (leaf (pos 0)) (minus (times (leaf (get_or lead j (pos 0))) (leaf (kept_entry s k e))) (times (leaf (kept_entry s k e)) (leaf (get_or lead j (pos 0))))) (omega arith)
         ∙ ap (λ (x : ℤ). get_or lead j (pos 0) *ℤ kept_entry s k e -ℤ kept_entry s k e *ℤ x) (sym lead_entering)
 
@@ -295,18 +295,18 @@ module _ (s : Store) (r b e j : ℕ) (sign : ℤ) (lead : List ℤ) (slot : Opti
         let none = lead_none v l off (λ i f. column_kept i m (sym f ∙ q)) in
         ⊎_elim
         (λ (f : m ≡ k).
-          let mine : place_of s v ≡ Kept k = q ∙ ap Kept f in
-          let now : kept_entry (exchanged s r b e j lead slot) k v ≡ own (exchanged s r b e j lead slot) k = kept_own (exchanged s r b e j lead slot) k v (swap.other_place v off away ∙ mine) in
-          ap (λ (x : ℤ). divisor *ℤ x) now
-          ∙ cell_now s.width (omega arith)
-          ∙ mix_own s.width j lead (short_row s k) may.lead_is.width long inside
-          ∙ same (minus (times (leaf (get_or lead j (pos 0))) (leaf (own s k))) (times (leaf (cell s k j)) (leaf (pos 0)))) (minus (times (leaf (get_or lead j (pos 0))) (leaf (own s k))) (times (leaf (kept_entry s k e)) (leaf (pos 0)))) (omega arith)
-          ∙ ap (λ (x : ℤ). get_or lead j (pos 0) *ℤ x -ℤ kept_entry s k e *ℤ pos 0) (sym (kept_own s k v mine))
-          ∙ ap (λ (x : ℤ). get_or lead j (pos 0) *ℤ kept_entry s k v -ℤ kept_entry s k e *ℤ x) (sym none))
+        let mine : place_of s v ≡ Kept k = q ∙ ap Kept f in
+        let now : kept_entry (exchanged s r b e j lead slot) k v ≡ own (exchanged s r b e j lead slot) k = kept_own (exchanged s r b e j lead slot) k v (swap.other_place v off away ∙ mine) in
+        ap (λ (x : ℤ). divisor *ℤ x) now
+        ∙ cell_now s.width (omega arith)
+        ∙ mix_own s.width j lead (short_row s k) may.lead_is.width long inside
+        ∙ same (minus (times (leaf (get_or lead j (pos 0))) (leaf (own s k))) (times (leaf (cell s k j)) (leaf (pos 0)))) (minus (times (leaf (get_or lead j (pos 0))) (leaf (own s k))) (times (leaf (kept_entry s k e)) (leaf (pos 0)))) (omega arith)
+        ∙ ap (λ (x : ℤ). get_or lead j (pos 0) *ℤ x -ℤ kept_entry s k e *ℤ pos 0) (sym (kept_own s k v mine))
+        ∙ ap (λ (x : ℤ). get_or lead j (pos 0) *ℤ kept_entry s k v -ℤ kept_entry s k e *ℤ x) (sym none))
         (λ apart'. all_none v
-          (ap (entry_at (exchanged s r b e j lead slot) k) (swap.other_place v off away ∙ q) ∙ not_kept (exchanged s r b e j lead slot) k (Kept m) (λ f. let g : m ≡ k = cc in apart' g) (λ i f. column_kept i m (sym f)))
-          (ap (entry_at s k) q ∙ not_kept s k (Kept m) (λ f. let g : m ≡ k = cc in apart' g) (λ i f. column_kept i m (sym f)))
-          none)
+        (ap (entry_at (exchanged s r b e j lead slot) k) (swap.other_place v off away ∙ q) ∙ not_kept (exchanged s r b e j lead slot) k (Kept m) (λ f. let g : m ≡ k = cc in apart' g) (λ i f. column_kept i m (sym f)))
+        (ap (entry_at s k) q ∙ not_kept s k (Kept m) (λ f. let g : m ≡ k = cc in apart' g) (λ i f. column_kept i m (sym f)))
+        none)
         (cases_eq m k)
     at_place v l off away Paired q =
         all_none v (ap (entry_at (exchanged s r b e j lead slot) k) (swap.other_place v off away ∙ q)) (ap (entry_at s k) q) (lead_none v l off (λ i f. column_paired i (sym f ∙ q)))
@@ -316,9 +316,9 @@ module _ (s : Store) (r b e j : ℕ) (sign : ℤ) (lead : List ℤ) (slot : Opti
         ⊎_elim
         (λ (f : v ≡ b). subst (λ (x : ℕ). divisor *ℤ kept_entry (exchanged s r b e j lead slot) k x ≡ get_or lead j (pos 0) *ℤ kept_entry s k x -ℤ kept_entry s k e *ℤ lead_at x) (sym f) at_leaving)
         (λ off. ⊎_elim
-          (λ (f : v ≡ e). subst (λ (x : ℕ). divisor *ℤ kept_entry (exchanged s r b e j lead slot) k x ≡ get_or lead j (pos 0) *ℤ kept_entry s k x -ℤ kept_entry s k e *ℤ lead_at x) (sym f) at_entering)
-          (λ away. at_place v l off away (place_of s v) refl)
-          (cases_eq v e))
+        (λ (f : v ≡ e). subst (λ (x : ℕ). divisor *ℤ kept_entry (exchanged s r b e j lead slot) k x ≡ get_or lead j (pos 0) *ℤ kept_entry s k x -ℤ kept_entry s k e *ℤ lead_at x) (sym f) at_entering)
+        (λ away. at_place v l off away (place_of s v) refl)
+        (cases_eq v e))
         (cases_eq v b)
 
     pub other_right : divisor *ℤ kept_right (exchanged s r b e j lead slot) k ≡ get_or lead j (pos 0) *ℤ kept_right s k -ℤ kept_entry s k e *ℤ last
@@ -352,12 +352,12 @@ module _ (s : Store) (r b e j : ℕ) (sign : ℤ) (lead : List ℤ) (slot : Opti
     slot_entry v l =
         ⊎_elim
         (λ (f : v ≡ b). ap (λ (x : ℕ). kept_entry (exchanged s r b e j lead slot) k x) f ∙ ap (entry_at (exchanged s r b e j lead slot) k) swap.leaving_place ∙ taken_cell j
-          ∙ taken_column s.width j lead may.lead_is.width inside ∙ may.lead_is.own_is ∙ ap lead_at (sym f))
+        ∙ taken_column s.width j lead may.lead_is.width inside ∙ may.lead_is.own_is ∙ ap lead_at (sym f))
         (λ off. ⊎_elim
-          (λ (f : v ≡ e). ap (λ (x : ℕ). kept_entry (exchanged s r b e j lead slot) k x) f ∙ kept_own (exchanged s r b e j lead slot) k e (swap.entering_place ∙ its_slot k mine)
-            ∙ taken_cell s.width ∙ taken_own s.width j lead may.lead_is.width inside ∙ sym lead_entering ∙ ap lead_at (sym f))
-          (λ away. slot_place v l off away (place_of s v) refl)
-          (cases_eq v e))
+        (λ (f : v ≡ e). ap (λ (x : ℕ). kept_entry (exchanged s r b e j lead slot) k x) f ∙ kept_own (exchanged s r b e j lead slot) k e (swap.entering_place ∙ its_slot k mine)
+        ∙ taken_cell s.width ∙ taken_own s.width j lead may.lead_is.width inside ∙ sym lead_entering ∙ ap lead_at (sym f))
+        (λ away. slot_place v l off away (place_of s v) refl)
+        (cases_eq v e))
         (cases_eq v b)
 
     pub slot_right : kept_right (exchanged s r b e j lead slot) k ≡ last
@@ -386,9 +386,9 @@ module _ (s : Store) (r b e j : ℕ) (sign : ℤ) (lead : List ℤ) (slot : Opti
           ⊎_elim
           (λ (f : i ≡ j). subst (λ (y : ℤ). d ∣ unsigned_abs y) (taken_own s.width j lead may.lead_is.width inside ∙ ap (λ (x : ℕ). get_or lead x (pos 0)) (sym f)) (of_taken s.width (omega arith)))
           (λ off. ⊎_elim
-            (λ (f : i ≡ s.width). subst (λ (y : ℤ). d ∣ unsigned_abs y) (taken_column s.width j lead may.lead_is.width inside ∙ ap (λ (x : ℕ). get_or lead x (pos 0)) (sym f)) (of_taken j (omega (arith, inside))))
-            (λ away. subst (λ (y : ℤ). d ∣ unsigned_abs y) (taken_other s.width j lead may.lead_is.width inside i off away) (of_taken i h))
-            (cases_eq i s.width))
+          (λ (f : i ≡ s.width). subst (λ (y : ℤ). d ∣ unsigned_abs y) (taken_column s.width j lead may.lead_is.width inside ∙ ap (λ (x : ℕ). get_or lead x (pos 0)) (sym f)) (of_taken j (omega (arith, inside))))
+          (λ away. subst (λ (y : ℤ). d ∣ unsigned_abs y) (taken_other s.width j lead may.lead_is.width inside i off away) (of_taken i h))
+          (cases_eq i s.width))
           (cases_eq i j)
 
       -- and is the slot's, times the sign
@@ -397,10 +397,10 @@ module _ (s : Store) (r b e j : ℕ) (sign : ℤ) (lead : List ℤ) (slot : Opti
           ⊎_elim
           (λ (within : i < s.width). let c = is.all_columns i within in may.lead_is.columns c.0 i c.1 c.2 ∙ ap (λ (x : ℤ). sign *ℤ x) (entry_kept c.0 ∙ ap (entry_at s k) c.2))
           (λ past. ⊎_elim
-            (λ (f : i ≡ s.width). ap (λ (x : ℕ). get_or lead x (pos 0)) f ∙ may.lead_is.own_is ∙ ap (λ (x : ℤ). sign *ℤ x) (entry_kept b ∙ kept_own s k b mine) ∙ ap (λ (x : ℕ). sign *ℤ cell s k x) (sym f))
-            (λ off. let f : i ≡ s.width + 1 = omega (arith, h, past, off) in
-              ap (λ (x : ℕ). get_or lead x (pos 0)) f ∙ may.lead_is.right ∙ ap (λ (x : ℤ). sign *ℤ x) (ap (right_by s b) mine) ∙ ap (λ (x : ℕ). sign *ℤ cell s k x) (sym f))
-            (cases_eq i s.width))
+          (λ (f : i ≡ s.width). ap (λ (x : ℕ). get_or lead x (pos 0)) f ∙ may.lead_is.own_is ∙ ap (λ (x : ℤ). sign *ℤ x) (entry_kept b ∙ kept_own s k b mine) ∙ ap (λ (x : ℕ). sign *ℤ cell s k x) (sym f))
+          (λ off. let f : i ≡ s.width + 1 = omega (arith, h, past, off) in
+          ap (λ (x : ℕ). get_or lead x (pos 0)) f ∙ may.lead_is.right ∙ ap (λ (x : ℤ). sign *ℤ x) (ap (right_by s b) mine) ∙ ap (λ (x : ℕ). sign *ℤ cell s k x) (sym f))
+          (cases_eq i s.width))
           (cases_lt i s.width)
         where
           entry_kept : (v : ℕ) → entry_of s b v ≡ kept_entry s k v
@@ -408,23 +408,23 @@ module _ (s : Store) (r b e j : ℕ) (sign : ℤ) (lead : List ℤ) (slot : Opti
 
       divides : (i : ℕ) → i < s.width + 2 → d ∣ unsigned_abs (cell s k i)
       divides i h = ⊎_elim
-        (λ (one : sign ≡ pos 1). let e : get_or lead i (pos 0) ≡ pos 1 *ℤ cell s k i = signed i h ∙ ap (λ (x : ℤ). x *ℤ cell s k i) one in
+          (λ (one : sign ≡ pos 1). let e : get_or lead i (pos 0) ≡ pos 1 *ℤ cell s k i = signed i h ∙ ap (λ (x : ℤ). x *ℤ cell s k i) one in
           let f : unsigned_abs (get_or lead i (pos 0)) ≡ unsigned_abs (cell s k i) = omega (arith, ints, e) in subst (λ (n : ℕ). d ∣ n) f (of_lead i h))
-        (λ (minus_one : sign ≡ negsuc 0). let e : get_or lead i (pos 0) ≡ negsuc 0 *ℤ cell s k i = signed i h ∙ ap (λ (x : ℤ). x *ℤ cell s k i) minus_one in
+          (λ (minus_one : sign ≡ negsuc 0). let e : get_or lead i (pos 0) ≡ negsuc 0 *ℤ cell s k i = signed i h ∙ ap (λ (x : ℤ). x *ℤ cell s k i) minus_one in
           let f : unsigned_abs (get_or lead i (pos 0)) ≡ unsigned_abs (cell s k i) = omega (arith, ints, e) in subst (λ (n : ℕ). d ∣ n) f (of_lead i h))
-        may.lead_is.sign_is
+          may.lead_is.sign_is
 
   pub exchanged_store : IsStore (exchanged s r b e j lead slot)
   exchanged_store = swapped s (exchanged s r b e j lead slot) r b e j is swap
-    (λ k l. ⊎_elim
+      (λ k l. ⊎_elim
       (λ q. ap length (short_slot k (low k l) q) ∙ taken_width s.width j lead may.lead_is.width inside)
       (λ q. ap length (short_other k (low k l) q) ∙ cleared_width s.width j lead (short_row s k) may.lead_is.width (is.widths k (low k l)) inside may.lead_is.positive (is.positive k (low k l)))
       (is_its k))
-    (λ k l. ⊎_elim
+      (λ k l. ⊎_elim
       (λ q. subst (λ (x : ℤ). pos 0 <ℤ x) (sym (taken_cell k (low k l) q s.width ∙ taken_own s.width j lead may.lead_is.width inside)) may.lead_is.positive)
       (λ q. subst (λ (xs : List ℤ). pos 0 <ℤ get_or xs s.width (pos 0)) (sym (short_other k (low k l) q)) (cleared_own s.width j lead (short_row s k) may.lead_is.width (is.widths k (low k l)) inside may.lead_is.positive (is.positive k (low k l))))
       (is_its k))
-    (λ k l. ⊎_elim
+      (λ k l. ⊎_elim
       (λ q. subst IsPrimitive (sym (short_slot k (low k l) q)) (lowest_slot k (low k l) q))
       (λ q. subst IsPrimitive (sym (short_other k (low k l) q)) (cleared_lowest s.width j lead (short_row s k) may.lead_is.width (is.widths k (low k l)) inside may.lead_is.positive (is.positive k (low k l))))
       (is_its k))
@@ -446,11 +446,11 @@ module _ (s : Store) (r b e j : ℕ) (sign : ℤ) (lead : List ℤ) (slot : Opti
       let new = λ (v : ℕ). kept_entry (exchanged s r b e j lead slot) k v in
       cancel g (sum_from (variables_of s) 0 (λ v. new v *ℤ y v)) (kept_right (exchanged s r b e j lead slot) k *ℤ d) (divisor_positive k l q)
       (sym (sum_from-scale (variables_of s) 0 g (λ v. new v *ℤ y v))
-       ∙ sum_from-same (variables_of s) 0 _ _ (λ v h i. spread g (new v) p (kept_entry s k v) x (lead_at v) (y v) (other_entry k l q v (omega (arith, i))))
-       ∙ sum_from-combine (variables_of s) 0 p x (λ v. kept_entry s k v *ℤ y v) (λ v. lead_at v *ℤ y v)
-       ∙ ap (λ (z : ℤ). p *ℤ z -ℤ x *ℤ sum_from (variables_of s) 0 (λ v. lead_at v *ℤ y v)) (kept.slots k l)
-       ∙ ap (λ (z : ℤ). p *ℤ (kept_right s k *ℤ d) -ℤ x *ℤ z) (lead_sum y d holds)
-       ∙ sym (spread g (kept_right (exchanged s r b e j lead slot) k) p (kept_right s k) x last d (other_right k l q)))
+      ∙ sum_from-same (variables_of s) 0 _ _ (λ v h i. spread g (new v) p (kept_entry s k v) x (lead_at v) (y v) (other_entry k l q v (omega (arith, i))))
+      ∙ sum_from-combine (variables_of s) 0 p x (λ v. kept_entry s k v *ℤ y v) (λ v. lead_at v *ℤ y v)
+      ∙ ap (λ (z : ℤ). p *ℤ z -ℤ x *ℤ sum_from (variables_of s) 0 (λ v. lead_at v *ℤ y v)) (kept.slots k l)
+      ∙ ap (λ (z : ℤ). p *ℤ (kept_right s k *ℤ d) -ℤ x *ℤ z) (lead_sum y d holds)
+      ∙ sym (spread g (kept_right (exchanged s r b e j lead slot) k) p (kept_right s k) x last d (other_right k l q)))
 
   pub exchanged_holds : (y : ℕ → ℤ) (d : ℤ) → Holds (tableau (table_of s)) y d → Holds (tableau (table_of (exchanged s r b e j lead slot))) y d
   exchanged_holds y d holds =
@@ -458,7 +458,7 @@ module _ (s : Store) (r b e j : ℕ) (sign : ℤ) (lead : List ℤ) (slot : Opti
       let of_leaving : HoldsOf s y d b = subst (HoldsOf s y d) may.basic (row_holds s y d r may.row holds) in
       kept_holds (exchanged s r b e j lead slot) y d exchanged_store (record {
         slots = λ k l. subst (λ (n : ℕ). sum_from n 0 (λ v. kept_entry (exchanged s r b e j lead slot) k v *ℤ y v) ≡ kept_right (exchanged s r b e j lead slot) k *ℤ d) (sym swap.variables)
-          (⊎_elim
+            (⊎_elim
             (λ q. sum_from-same (variables_of s) 0 _ _ (λ v h i. ap (λ (x : ℤ). x *ℤ y v) (slot_entry k (low k l) q v (omega (arith, i)))) ∙ lead_sum y d of_leaving ∙ ap (λ (x : ℤ). x *ℤ d) (sym (slot_right k (low k l) q)))
             (λ q. other_holds y d kept of_leaving k (low k l) q)
             (is_its k));

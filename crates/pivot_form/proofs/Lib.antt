@@ -10,7 +10,11 @@ pub mod Solutions
 pub mod Lowest
 pub mod Swaps
 pub mod Exchange
+pub mod Cleared
+pub mod Flips
+pub mod Steps
 pub mod Shorts
+pub mod WholeRows
 pub mod ClassPairs
 pub mod FirstSlots
 pub mod Starts

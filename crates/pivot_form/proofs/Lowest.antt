@@ -25,7 +25,7 @@ times_divides : (d : ℕ) (z x : ℤ) → z *ℤ pos d ≡ x → d ∣ unsigned_
 times_divides d z x e = subst (λ (n : ℕ). d ∣ n) (sym (unsigned_abs-mul z (pos d)) ∙ ap unsigned_abs e) (dvd-mul_left d (unsigned_abs z))
 
 -- what divides p a - q b and a divides q b; here q is 1 or -1
-rest_divides : (d : ℕ) (p a b : ℤ) → d ∣ unsigned_abs (p *ℤ a -ℤ b) → d ∣ unsigned_abs p → d ∣ unsigned_abs b
+pub rest_divides : (d : ℕ) (p a b : ℤ) → d ∣ unsigned_abs (p *ℤ a -ℤ b) → d ∣ unsigned_abs p → d ∣ unsigned_abs b
 rest_divides d p a b whole part =
     let W = int_div (p *ℤ a -ℤ b) (pos d) in
     let P = int_div p (pos d) in
@@ -43,7 +43,7 @@ at_last : (s : Store) (d b : ℕ) → All (λ x. d ∣ unsigned_abs x) (whole_ro
 at_last s d b all = subst (λ (x : ℤ). d ∣ unsigned_abs x) (cell_at s b (variables_of s) (omega arith) ∙ row_entry_last s b) (all (variables_of s) (pos 0) (omega (arith, width_at s b)))
 
 -- what divides each cell of a slot is 1
-all_cells_one : (s : Store) (d k : ℕ) → IsStore s → k < length s.rows → ((j : ℕ) → j < s.width → d ∣ unsigned_abs (cell s k j)) → d ∣ unsigned_abs (own s k) → d ∣ unsigned_abs (kept_right s k) → d ≡ 1
+pub all_cells_one : (s : Store) (d k : ℕ) → IsStore s → k < length s.rows → ((j : ℕ) → j < s.width → d ∣ unsigned_abs (cell s k j)) → d ∣ unsigned_abs (own s k) → d ∣ unsigned_abs (kept_right s k) → d ≡ 1
 all_cells_one s d k is l columns mine last =
     is.primitive k l d (λ q e h. subst (λ (x : ℤ). d ∣ unsigned_abs x) (sym (at_default q e h)) (by q (omega (arith, h, is.widths k l))))
   where
@@ -55,28 +55,28 @@ all_cells_one s d k is l columns mine last =
         ⊎_elim
         (λ (inside : q < s.width). columns q inside)
         (λ past. ⊎_elim
-          (λ (e : q ≡ s.width). subst (λ (x : ℕ). d ∣ unsigned_abs (cell s k x)) (sym e) mine)
-          (λ off. subst (λ (x : ℕ). d ∣ unsigned_abs (cell s k x)) (omega (arith, h, past, off)) last)
-          (cases_eq q s.width))
+        (λ (e : q ≡ s.width). subst (λ (x : ℕ). d ∣ unsigned_abs (cell s k x)) (sym e) mine)
+        (λ off. subst (λ (x : ℕ). d ∣ unsigned_abs (cell s k x)) (omega (arith, h, past, off)) last)
+        (cases_eq q s.width))
         (cases_lt q s.width)
 
 pub row_lowest : (s : Store) (b : ℕ) → IsStore s → b < variables_of s → ((j : ℕ) → place_of s b ≢ Column j) → IsPrimitive (whole_row s b)
 row_lowest s b is l no_column d all =
     row_kind s b is l no_column
     (λ k row. all_cells_one s d k is (is.kept b k l row.place)
-      (λ j h. let c = is.all_columns j h in subst (λ (x : ℤ). d ∣ unsigned_abs x) (row.entries c.0 ∙ ap (entry_at s k) c.2) (at_inside s d b c.0 all c.1))
-      (subst (λ (x : ℤ). d ∣ unsigned_abs x) (row.entries b ∙ kept_own s k b row.place) (at_inside s d b b all l))
-      (subst (λ (x : ℤ). d ∣ unsigned_abs x) row.right (at_last s d b all)))
+    (λ j h. let c = is.all_columns j h in subst (λ (x : ℤ). d ∣ unsigned_abs x) (row.entries c.0 ∙ ap (entry_at s k) c.2) (at_inside s d b c.0 all c.1))
+    (subst (λ (x : ℤ). d ∣ unsigned_abs x) (row.entries b ∙ kept_own s k b row.place) (at_inside s d b b all l))
+    (subst (λ (x : ℤ). d ∣ unsigned_abs x) row.right (at_last s d b all)))
     (λ p j row. let good = is.pairs b p l row.pair in
-      eq-one_of_dvd-one (subst (λ (x : ℤ). d ∣ unsigned_abs x) (row.entries b ∙ pair_first b p.other b refl (λ e. good.1 (sym e))) (at_inside s d b b all l)))
+    eq-one_of_dvd-one (subst (λ (x : ℤ). d ∣ unsigned_abs x) (row.entries b ∙ pair_first b p.other b refl (λ e. good.1 (sym e))) (at_inside s d b b all l)))
     (λ p k row. let good = is.pairs b p l row.pair in
-      let mine : d ∣ unsigned_abs (own s k) = subst (λ (x : ℤ). d ∣ unsigned_abs x) (own_is p k row (good.1)) (at_inside s d b b all l) in
-      all_cells_one s d k is (is.kept p.other k good.0 row.other)
-      (λ j h. let c = is.all_columns j h in
-        rest_divides d (own s k) (pair_entry b p.other c.0) (cell s k j)
-        (subst (λ (x : ℤ). d ∣ unsigned_abs x) (row.entries c.0 ∙ ap (λ (x : ℤ). own s k *ℤ pair_entry b p.other c.0 -ℤ x) (ap (entry_at s k) c.2)) (at_inside s d b c.0 all c.1)) mine)
-      mine
-      (rest_divides d (own s k) p.sum (kept_right s k) (subst (λ (x : ℤ). d ∣ unsigned_abs x) row.right (at_last s d b all)) mine))
+    let mine : d ∣ unsigned_abs (own s k) = subst (λ (x : ℤ). d ∣ unsigned_abs x) (own_is p k row (good.1)) (at_inside s d b b all l) in
+    all_cells_one s d k is (is.kept p.other k good.0 row.other)
+    (λ j h. let c = is.all_columns j h in
+    rest_divides d (own s k) (pair_entry b p.other c.0) (cell s k j)
+    (subst (λ (x : ℤ). d ∣ unsigned_abs x) (row.entries c.0 ∙ ap (λ (x : ℤ). own s k *ℤ pair_entry b p.other c.0 -ℤ x) (ap (entry_at s k) c.2)) (at_inside s d b c.0 all c.1)) mine)
+    mine
+    (rest_divides d (own s k) p.sum (kept_right s k) (subst (λ (x : ℤ). d ∣ unsigned_abs x) row.right (at_last s d b all)) mine))
   where
     own_is : (p : Pair) (k : ℕ) → IsMirrorRow s b p k → p.other ≢ b → entry_of s b b ≡ own s k
     own_is p k row apart =

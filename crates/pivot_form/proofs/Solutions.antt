@@ -57,8 +57,8 @@ slot_holds s y d is holds k l =
     let b = get_or s.basis found.0 0 in
     row_kind s b is (is.basics found.0 found.1) (λ j. is.basic_place found.0 j found.1)
     (λ n row. let same : n ≡ k = kept_same n k (sym row.place ∙ found.2) in
-      subst (λ (x : ℕ). sum_from (variables_of s) 0 (λ v. kept_entry s x v *ℤ y v) ≡ kept_right s x *ℤ d) same
-      (sum_from-same (variables_of s) 0 _ _ (λ v h i. ap (λ (x : ℤ). x *ℤ y v) (sym (row.entries v))) ∙ row_holds s y d found.0 found.1 holds ∙ ap (λ (x : ℤ). x *ℤ d) row.right))
+    subst (λ (x : ℕ). sum_from (variables_of s) 0 (λ v. kept_entry s x v *ℤ y v) ≡ kept_right s x *ℤ d) same
+    (sum_from-same (variables_of s) 0 _ _ (λ v h i. ap (λ (x : ℤ). x *ℤ y v) (sym (row.entries v))) ∙ row_holds s y d found.0 found.1 holds ∙ ap (λ (x : ℤ). x *ℤ d) row.right))
     (λ p j row. absurd (differ (sym row.place ∙ found.2)))
     (λ p n row. absurd (differ (sym row.place ∙ found.2)))
   where
@@ -92,20 +92,20 @@ paired_holds s y d is holds v p l pair place =
         row_kind s v is l (λ j q. differ (sym place ∙ q))
         (λ k row. absurd (differ' (sym place ∙ row.place)))
         (λ q j row. let o : q ≡ p = same_pair q row.pair in
-          subst (λ (x : Pair). y v +ℤ y x.other ≡ x.sum *ℤ d) o
-          (sym (pair_sum (variables_of s) v q.other y l (subst (λ (x : Pair). x.other < variables_of s) (sym o) good.0) (subst (λ (x : Pair). x.other ≢ v) (sym o) good.1))
-           ∙ sum_from-same (variables_of s) 0 _ _ (λ u a b. ap (λ (x : ℤ). x *ℤ y u) (sym (row.entries u))) ∙ row_is ∙ ap (λ (x : ℤ). x *ℤ d) row.right))
+        subst (λ (x : Pair). y v +ℤ y x.other ≡ x.sum *ℤ d) o
+        (sym (pair_sum (variables_of s) v q.other y l (subst (λ (x : Pair). x.other < variables_of s) (sym o) good.0) (subst (λ (x : Pair). x.other ≢ v) (sym o) good.1))
+        ∙ sum_from-same (variables_of s) 0 _ _ (λ u a b. ap (λ (x : ℤ). x *ℤ y u) (sym (row.entries u))) ∙ row_is ∙ ap (λ (x : ℤ). x *ℤ d) row.right))
         (λ q k row. let o : q ≡ p = same_pair q row.pair in
-          subst (λ (x : Pair). y v +ℤ y x.other ≡ x.sum *ℤ d) o
-          (let m = subst (λ (x : Pair). x.other < variables_of s) (sym o) good.0 in
-           let slot = is.kept q.other k m row.other in
-           let sum = mirror_sum s y v q k l m (subst (λ (x : Pair). x.other ≢ v) (sym o) good.1) row in
-           let kept = slot_holds s y d is holds k slot in
-           let all : own s k *ℤ (y v +ℤ y q.other) -ℤ kept_right s k *ℤ d ≡ (own s k *ℤ q.sum -ℤ kept_right s k) *ℤ d
-             = ap (λ (x : ℤ). own s k *ℤ (y v +ℤ y q.other) -ℤ x) (sym kept) ∙ sym sum ∙ row_is ∙ ap (λ (x : ℤ). x *ℤ d) row.right in
-           let split : (own s k *ℤ q.sum -ℤ kept_right s k) *ℤ d ≡ own s k *ℤ (q.sum *ℤ d) -ℤ kept_right s k *ℤ d
-             = same (times (minus (times (leaf (own s k)) (leaf q.sum)) (leaf (kept_right s k))) (leaf d)) (minus (times (leaf (own s k)) (times (leaf q.sum) (leaf d))) (times (leaf (kept_right s k)) (leaf d))) (omega arith) in
-           cancel (own s k) (y v +ℤ y q.other) (q.sum *ℤ d) (is.positive k slot) (omega (arith, ints, all, split))))
+        subst (λ (x : Pair). y v +ℤ y x.other ≡ x.sum *ℤ d) o
+        (let m = subst (λ (x : Pair). x.other < variables_of s) (sym o) good.0 in
+        let slot = is.kept q.other k m row.other in
+        let sum = mirror_sum s y v q k l m (subst (λ (x : Pair). x.other ≢ v) (sym o) good.1) row in
+        let kept = slot_holds s y d is holds k slot in
+        let all : own s k *ℤ (y v +ℤ y q.other) -ℤ kept_right s k *ℤ d ≡ (own s k *ℤ q.sum -ℤ kept_right s k) *ℤ d
+        = ap (λ (x : ℤ). own s k *ℤ (y v +ℤ y q.other) -ℤ x) (sym kept) ∙ sym sum ∙ row_is ∙ ap (λ (x : ℤ). x *ℤ d) row.right in
+        let split : (own s k *ℤ q.sum -ℤ kept_right s k) *ℤ d ≡ own s k *ℤ (q.sum *ℤ d) -ℤ kept_right s k *ℤ d
+        = same (times (minus (times (leaf (own s k)) (leaf q.sum)) (leaf (kept_right s k))) (leaf d)) (minus (times (leaf (own s k)) (times (leaf q.sum) (leaf d))) (times (leaf (kept_right s k)) (leaf d))) (omega arith) in
+        cancel (own s k) (y v +ℤ y q.other) (q.sum *ℤ d) (is.positive k slot) (omega (arith, ints, all, split))))
 
 pub holds_kept : (s : Store) (y : ℕ → ℤ) (d : ℤ) → IsStore s → Holds (tableau (table_of s)) y d → HoldsKept s y d
 holds_kept s y d is holds = record {
@@ -137,10 +137,10 @@ kept_holds s y d is kept i h =
         row_kind s b is l no_column
         (λ k row. sum_from-same (variables_of s) 0 _ _ (λ v a c. ap (λ (x : ℤ). x *ℤ y v) (row.entries v)) ∙ kept.slots k (is.kept b k l row.place) ∙ ap (λ (x : ℤ). x *ℤ d) (sym row.right))
         (λ p j row. let good = is.pairs b p l row.pair in
-          sum_from-same (variables_of s) 0 _ _ (λ v a c. ap (λ (x : ℤ). x *ℤ y v) (row.entries v)) ∙ pair_sum (variables_of s) b p.other y l good.0 good.1 ∙ kept.pairs b p l row.pair ∙ ap (λ (x : ℤ). x *ℤ d) (sym row.right))
+        sum_from-same (variables_of s) 0 _ _ (λ v a c. ap (λ (x : ℤ). x *ℤ y v) (row.entries v)) ∙ pair_sum (variables_of s) b p.other y l good.0 good.1 ∙ kept.pairs b p l row.pair ∙ ap (λ (x : ℤ). x *ℤ d) (sym row.right))
         (λ p k row. let good = is.pairs b p l row.pair in
-          mirror_sum s y b p k l good.0 good.1 row
-          ∙ ap (λ (x : ℤ). own s k *ℤ x -ℤ sum_from (variables_of s) 0 (λ v. kept_entry s k v *ℤ y v)) (kept.pairs b p l row.pair)
-          ∙ ap (λ (x : ℤ). own s k *ℤ (p.sum *ℤ d) -ℤ x) (kept.slots k (is.kept p.other k good.0 row.other))
-          ∙ same (minus (times (leaf (own s k)) (times (leaf p.sum) (leaf d))) (times (leaf (kept_right s k)) (leaf d))) (times (minus (times (leaf (own s k)) (leaf p.sum)) (leaf (kept_right s k))) (leaf d)) (omega arith)
-          ∙ ap (λ (x : ℤ). x *ℤ d) (sym row.right))
+        mirror_sum s y b p k l good.0 good.1 row
+        ∙ ap (λ (x : ℤ). own s k *ℤ x -ℤ sum_from (variables_of s) 0 (λ v. kept_entry s k v *ℤ y v)) (kept.pairs b p l row.pair)
+        ∙ ap (λ (x : ℤ). own s k *ℤ (p.sum *ℤ d) -ℤ x) (kept.slots k (is.kept p.other k good.0 row.other))
+        ∙ same (minus (times (leaf (own s k)) (times (leaf p.sum) (leaf d))) (times (leaf (kept_right s k)) (leaf d))) (times (minus (times (leaf (own s k)) (leaf p.sum)) (leaf (kept_right s k))) (leaf d)) (omega arith)
+        ∙ ap (λ (x : ℤ). x *ℤ d) (sym row.right))

@@ -103,9 +103,9 @@ module _ (s t : Store) (r b e j : ℕ) (is : IsStore s) (swap : IsSwap s t r b e
       ⊎_elim
       (λ (f : v ≡ b). ap (place_of t) f ∙ swap.leaving_place ∙ sym swap.column ∙ ap (place_of s) (sym (before_leaving b e v f)))
       (λ away. ⊎_elim
-        (λ (f : v ≡ e). ap (place_of t) f ∙ swap.entering_place ∙ ap (place_of s) (sym (before_entering b e v away f)))
-        (λ off. swap.other_place v away off ∙ ap (place_of s) (sym (before_other b e v away off)))
-        (cases_eq v e))
+      (λ (f : v ≡ e). ap (place_of t) f ∙ swap.entering_place ∙ ap (place_of s) (sym (before_entering b e v away f)))
+      (λ off. swap.other_place v away off ∙ ap (place_of s) (sym (before_other b e v away off)))
+      (cases_eq v e))
       (cases_eq v b)
 
   within : (v : ℕ) → v < variables_of t → before b e v < variables_of s
@@ -113,9 +113,9 @@ module _ (s t : Store) (r b e j : ℕ) (is : IsStore s) (swap : IsSwap s t r b e
       ⊎_elim
       (λ (f : v ≡ b). subst (λ (x : ℕ). x < variables_of s) (sym (before_leaving b e v f)) swap.entering)
       (λ away. ⊎_elim
-        (λ (f : v ≡ e). subst (λ (x : ℕ). x < variables_of s) (sym (before_entering b e v away f)) leaving)
-        (λ off. subst (λ (x : ℕ). x < variables_of s) (sym (before_other b e v away off)) (omega (arith, l, swap.variables)))
-        (cases_eq v e))
+      (λ (f : v ≡ e). subst (λ (x : ℕ). x < variables_of s) (sym (before_entering b e v away f)) leaving)
+      (λ off. subst (λ (x : ℕ). x < variables_of s) (sym (before_other b e v away off)) (omega (arith, l, swap.variables)))
+      (cases_eq v e))
       (cases_eq v b)
 
   -- a variable that isn't paired now and has a pair: the other one is
@@ -124,9 +124,9 @@ module _ (s t : Store) (r b e j : ℕ) (is : IsStore s) (swap : IsSwap s t r b e
       ⊎_elim
       (λ (f : v ≡ b). at_leaving f)
       (λ away. ⊎_elim
-        (λ (f : v ≡ e). at_entering f away)
-        (λ off. elsewhere away off (is.one_paired v p l pair (λ q. other (swap.other_place v away off ∙ q))))
-        (cases_eq v e))
+      (λ (f : v ≡ e). at_entering f away)
+      (λ off. elsewhere away off (is.one_paired v p l pair (λ q. other (swap.other_place v away off ∙ q))))
+      (cases_eq v e))
       (cases_eq v b)
     where
       good : (p.other < variables_of s) × (p.other ≢ v) × (pair_of s p.other ≡ Some (record { other = v; sum = p.sum }))
@@ -138,29 +138,29 @@ module _ (s t : Store) (r b e j : ℕ) (is : IsStore s) (swap : IsSwap s t r b e
 
       at_leaving : v ≡ b → place_of t p.other ≡ Paired
       at_leaving f = ⊎_elim
-        (λ (unpaired : place_of s b ≢ Paired). stays (is.one_paired v p l pair (λ q. unpaired (ap (place_of s) (sym f) ∙ q))) (λ g. good.1 (g ∙ sym f)))
-        (λ found. let same : Some found.0 ≡ Some p = sym found.1 ∙ ap (pair_of s) (sym f) ∙ pair in
+          (λ (unpaired : place_of s b ≢ Paired). stays (is.one_paired v p l pair (λ q. unpaired (ap (place_of s) (sym f) ∙ q))) (λ g. good.1 (g ∙ sym f)))
+          (λ found. let same : Some found.0 ≡ Some p = sym found.1 ∙ ap (pair_of s) (sym f) ∙ pair in
           let q : found.0 ≡ p = cc in
           ⊎_elim
           (λ (kept : place_of s b ≢ Paired). stays (is.one_paired v p l pair (λ z. kept (ap (place_of s) (sym f) ∙ z))) (λ g. good.1 (g ∙ sym f)))
           (λ (paired : place_of s b ≡ Paired). ap (λ (x : Pair). place_of t x.other) (sym q) ∙ ap (place_of t) found.2 ∙ swap.entering_place ∙ paired)
           (is_paired (place_of s b)))
-        swap.may
+          swap.may
 
       at_entering : v ≡ e → v ≢ b → place_of t p.other ≡ Paired
       at_entering f away =
           let q : place_of s p.other ≡ Paired = is.one_paired v p l pair (λ z. column_paired j (sym swap.column ∙ ap (place_of s) (sym f) ∙ z)) in
           stays q (λ g. ⊎_elim
-            (λ (unpaired : place_of s b ≢ Paired). unpaired (ap (place_of s) (sym g) ∙ q))
-            (λ found. other (ap (place_of t) f ∙ swap.entering_place ∙ ap (place_of s) (sym g) ∙ q))
-            swap.may)
+          (λ (unpaired : place_of s b ≢ Paired). unpaired (ap (place_of s) (sym g) ∙ q))
+          (λ found. other (ap (place_of t) f ∙ swap.entering_place ∙ ap (place_of s) (sym g) ∙ q))
+          swap.may)
 
       elsewhere : v ≢ b → v ≢ e → place_of s p.other ≡ Paired → place_of t p.other ≡ Paired
       elsewhere away off q = stays q (λ g. ⊎_elim
-        (λ (unpaired : place_of s b ≢ Paired). unpaired (ap (place_of s) (sym g) ∙ q))
-        (λ found. let same : Some found.0 ≡ Some (record { other = v; sum = p.sum }) = sym found.1 ∙ ap (pair_of s) (sym g) ∙ good.2 in
+          (λ (unpaired : place_of s b ≢ Paired). unpaired (ap (place_of s) (sym g) ∙ q))
+          (λ found. let same : Some found.0 ≡ Some (record { other = v; sum = p.sum }) = sym found.1 ∙ ap (pair_of s) (sym g) ∙ good.2 in
           let back : found.0.other ≡ v = cc in off (sym back ∙ found.2))
-        swap.may)
+          swap.may)
 
   -- a variable that is paired now has a pair, and the other one isn't
   other_now : (v : ℕ) → v < variables_of s → place_of t v ≡ Paired → (p : Pair) × (pair_of s v ≡ Some p) × (place_of t p.other ≢ Paired)
@@ -168,9 +168,9 @@ module _ (s t : Store) (r b e j : ℕ) (is : IsStore s) (swap : IsSwap s t r b e
       ⊎_elim
       (λ (f : v ≡ b). column_paired j (sym swap.leaving_place ∙ ap (place_of t) (sym f) ∙ q))
       (λ away. ⊎_elim
-        (λ (f : v ≡ e). at_entering f)
-        (λ off. elsewhere away off (is.paired v l (sym (swap.other_place v away off) ∙ q)))
-        (cases_eq v e))
+      (λ (f : v ≡ e). at_entering f)
+      (λ off. elsewhere away off (is.paired v l (sym (swap.other_place v away off) ∙ q)))
+      (cases_eq v e))
       (cases_eq v b)
     where
       leaving_now : place_of t b ≢ Paired
@@ -178,28 +178,32 @@ module _ (s t : Store) (r b e j : ℕ) (is : IsStore s) (swap : IsSwap s t r b e
 
       at_entering : v ≡ e → (p : Pair) × (pair_of s v ≡ Some p) × (place_of t p.other ≢ Paired)
       at_entering f = ⊎_elim
-        (λ (unpaired : place_of s b ≢ Paired). absurd (unpaired (sym swap.entering_place ∙ ap (place_of t) (sym f) ∙ q)))
-        (λ found. let good = is.pairs b found.0 leaving found.1 in
+          (λ (unpaired : place_of s b ≢ Paired). absurd (unpaired (sym swap.entering_place ∙ ap (place_of t) (sym f) ∙ q)))
+          (λ found. let good = is.pairs b found.0 leaving found.1 in
           (record { other = b; sum = found.0.sum }, (ap (pair_of s) (f ∙ sym found.2) ∙ good.2), leaving_now))
-        swap.may
+          swap.may
 
       elsewhere : v ≢ b → v ≢ e → ((p : Pair) × (pair_of s v ≡ Some p) × (place_of s p.other ≢ Paired)) → (p : Pair) × (pair_of s v ≡ Some p) × (place_of t p.other ≢ Paired)
-      elsewhere away off found = (found.0, found.1, λ z.
-        ⊎_elim
-        (λ (f : found.0.other ≡ b). leaving_now (ap (place_of t) (sym f) ∙ z))
-        (λ apart'. ⊎_elim
-          (λ (f : found.0.other ≡ e). ⊎_elim
+      elsewhere away off found = (
+        found.0,
+        found.1,
+        λ z.
+            ⊎_elim
+            (λ (f : found.0.other ≡ b). leaving_now (ap (place_of t) (sym f) ∙ z))
+            (λ apart'. ⊎_elim
+            (λ (f : found.0.other ≡ e). ⊎_elim
             (λ (unpaired : place_of s b ≢ Paired). unpaired (sym swap.entering_place ∙ ap (place_of t) (sym f) ∙ z))
             (λ mine. let good = is.pairs b mine.0 leaving mine.1 in
-              let theirs = is.pairs v found.0 l found.1 in
-              let same : Some (record { other = b; sum = mine.0.sum }) ≡ Some (record { other = v; sum = found.0.sum })
-                = sym good.2 ∙ ap (pair_of s) (mine.2 ∙ sym f) ∙ theirs.2 in
-              let whole : record { other = b; sum = mine.0.sum } ≡ record { other = v; sum = found.0.sum } = cc in
-              away (sym (ap (λ (x : Pair). x.other) whole)))
+            let theirs = is.pairs v found.0 l found.1 in
+            let same : Some (record { other = b; sum = mine.0.sum }) ≡ Some (record { other = v; sum = found.0.sum })
+            = sym good.2 ∙ ap (pair_of s) (mine.2 ∙ sym f) ∙ theirs.2 in
+            let whole : record { other = b; sum = mine.0.sum } ≡ record { other = v; sum = found.0.sum } = cc in
+            away (sym (ap (λ (x : Pair). x.other) whole)))
             swap.may)
-          (λ off'. found.2 (sym (swap.other_place found.0.other apart' off') ∙ z))
-          (cases_eq found.0.other e))
-        (cases_eq found.0.other b))
+            (λ off'. found.2 (sym (swap.other_place found.0.other apart' off') ∙ z))
+            (cases_eq found.0.other e))
+            (cases_eq found.0.other b),
+      )
 
   -- so what is kept of t is a form again, where its slots keep equations
   pub swapped : ((k : ℕ) → k < length t.rows → length (short_row t k) ≡ t.width + 2) → ((k : ℕ) → k < length t.rows → pos 0 <ℤ own t k) → ((k : ℕ) → k < length t.rows → IsPrimitive (short_row t k)) → IsStore t
@@ -207,41 +211,44 @@ module _ (s t : Store) (r b e j : ℕ) (is : IsStore s) (swap : IsSwap s t r b e
     all_pairs = ap length swap.pairs ∙ is.all_pairs ∙ sym swap.variables;
     widths = widths;
     basics = λ i l. ⊎_elim
-      (λ (f : i ≡ r). subst (λ (x : ℕ). x < variables_of t) (sym (ap (λ (k : ℕ). get_or t.basis k 0) f ∙ basis_here)) (omega (arith, swap.entering, swap.variables)))
-      (λ away. subst (λ (x : ℕ). x < variables_of t) (sym (basis_off i away)) (omega (arith, is.basics i (low i l), swap.variables)))
-      (cases_eq i r);
+        (λ (f : i ≡ r). subst (λ (x : ℕ). x < variables_of t) (sym (ap (λ (k : ℕ). get_or t.basis k 0) f ∙ basis_here)) (omega (arith, swap.entering, swap.variables)))
+        (λ away. subst (λ (x : ℕ). x < variables_of t) (sym (basis_off i away)) (omega (arith, is.basics i (low i l), swap.variables)))
+        (cases_eq i r);
     one_basic = λ i k l m away. ⊎_elim
-      (λ (f : i ≡ r). λ g. nonbasic k (low k m) (sym (basis_off k (λ h. away (f ∙ sym h))) ∙ sym g ∙ ap (λ (x : ℕ). get_or t.basis x 0) f ∙ basis_here))
-      (λ off. ⊎_elim
+        (λ (f : i ≡ r). λ g. nonbasic k (low k m) (sym (basis_off k (λ h. away (f ∙ sym h))) ∙ sym g ∙ ap (λ (x : ℕ). get_or t.basis x 0) f ∙ basis_here))
+        (λ off. ⊎_elim
         (λ (f : k ≡ r). λ g. nonbasic i (low i l) (sym (basis_off i off) ∙ g ∙ ap (λ (x : ℕ). get_or t.basis x 0) f ∙ basis_here))
         (λ off'. λ g. is.one_basic i k (low i l) (low k m) away (sym (basis_off i off) ∙ g ∙ basis_off k off'))
         (cases_eq k r))
-      (cases_eq i r);
+        (cases_eq i r);
     basic_place = λ i c l q. ⊎_elim
-      (λ (f : i ≡ r). no_column c (sym swap.entering_place ∙ ap (place_of t) (sym (ap (λ (k : ℕ). get_or t.basis k 0) f ∙ basis_here)) ∙ q))
-      (λ away. is.basic_place i c (low i l) (sym (off_places i (low i l) away) ∙ ap (place_of t) (sym (basis_off i away)) ∙ q))
-      (cases_eq i r);
+        (λ (f : i ≡ r). no_column c (sym swap.entering_place ∙ ap (place_of t) (sym (ap (λ (k : ℕ). get_or t.basis k 0) f ∙ basis_here)) ∙ q))
+        (λ away. is.basic_place i c (low i l) (sym (off_places i (low i l) away) ∙ ap (place_of t) (sym (basis_off i away)) ∙ q))
+        (cases_eq i r);
     other_place = λ v l none. ⊎_elim
-      (λ (f : v ≡ b). (j, ap (place_of t) f ∙ swap.leaving_place))
-      (λ away. ⊎_elim
+        (λ (f : v ≡ b). (j, ap (place_of t) f ∙ swap.leaving_place))
+        (λ away. ⊎_elim
         (λ (f : v ≡ e). absurd (none r (omega (arith, swap.row, height)) (basis_here ∙ sym f)))
         (λ off. let found = is.other_place v (omega (arith, l, swap.variables)) (λ i h g. ⊎_elim (λ (f : i ≡ r). away (sym g ∙ ap (λ (k : ℕ). get_or s.basis k 0) f ∙ swap.basic)) (λ elsewhere. none i (omega (arith, h, height)) (basis_off i elsewhere ∙ g)) (cases_eq i r)) in
-          (found.0, swap.other_place v away off ∙ found.1))
+        (found.0, swap.other_place v away off ∙ found.1))
         (cases_eq v e))
-      (cases_eq v b);
+        (cases_eq v b);
     columns = λ v c l q. omega (arith, swap.width, is.columns (before b e v) c (within v l) (sym (place_from v) ∙ q));
     one_column = λ v w c l m q z. before_one b e v w (is.one_column (before b e v) (before b e w) c (within v l) (within w m) (sym (place_from v) ∙ q) (sym (place_from w) ∙ z));
     all_columns = λ c l. let found = is.all_columns c (omega (arith, l, swap.width)) in
-      (before b e found.0, within' found.0 found.1, place_from (before b e found.0) ∙ ap (place_of s) (before_twice b e found.0) ∙ found.2);
+        (before b e found.0, within' found.0 found.1, place_from (before b e found.0) ∙ ap (place_of s) (before_twice b e found.0) ∙ found.2);
     kept = λ v k l q. omega (arith, swap.slots, is.kept (before b e v) k (within v l) (sym (place_from v) ∙ q));
     one_kept = λ v w k l m q z. before_one b e v w (is.one_kept (before b e v) (before b e w) k (within v l) (within w m) (sym (place_from v) ∙ q) (sym (place_from w) ∙ z));
-    all_kept = λ k l. let found = is.all_kept k (omega (arith, l, swap.slots)) in
-      (found.0, omega (arith, found.1, height), ⊎_elim
-        (λ (f : found.0 ≡ r). ap (place_of t) (ap (λ (x : ℕ). get_or t.basis x 0) f ∙ basis_here) ∙ swap.entering_place ∙ ap (place_of s) (sym swap.basic ∙ ap (λ (x : ℕ). get_or s.basis x 0) (sym f)) ∙ found.2)
-        (λ away. ap (place_of t) (basis_off found.0 away) ∙ off_places found.0 found.1 away ∙ found.2)
-        (cases_eq found.0 r));
+    all_kept = λ k l. let found = is.all_kept k (omega (arith, l, swap.slots)) in (
+      found.0,
+      omega (arith, found.1, height),
+      ⊎_elim
+          (λ (f : found.0 ≡ r). ap (place_of t) (ap (λ (x : ℕ). get_or t.basis x 0) f ∙ basis_here) ∙ swap.entering_place ∙ ap (place_of s) (sym swap.basic ∙ ap (λ (x : ℕ). get_or s.basis x 0) (sym f)) ∙ found.2)
+          (λ away. ap (place_of t) (basis_off found.0 away) ∙ off_places found.0 found.1 away ∙ found.2)
+          (cases_eq found.0 r),
+    );
     pairs = λ v p l pair. let good = is.pairs v p (omega (arith, l, swap.variables)) (sym (pair_stays v) ∙ pair) in
-      (omega (arith, good.0, swap.variables), good.1, pair_stays p.other ∙ good.2);
+        (omega (arith, good.0, swap.variables), good.1, pair_stays p.other ∙ good.2);
     paired = λ v l q. let found = other_now v (omega (arith, l, swap.variables)) q in (found.0, pair_stays v ∙ found.1, found.2);
     one_paired = λ v p l pair q. paired_now v p (omega (arith, l, swap.variables)) (sym (pair_stays v) ∙ pair) q;
     positive = positive;

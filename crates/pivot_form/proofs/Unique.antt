@@ -96,17 +96,17 @@ module _ (t u : Tableau) (solved : IsSolved t) (solved' : IsSolved u) (height : 
   way_sum j k non lt l =
       link_apart u.width (u.at k) (way t j) (t.basic k) j (non k l) (omega (arith, solved.within k l, width)) (omega (arith, lt, width))
       (λ v h off other. ⊎_elim
-        (λ (found : (i : ℕ) × (i < t.height) × (t.basic i ≡ v)). inl (ap (λ (x : ℕ). u.at k x) (sym found.2) ∙ clear' found.0 k found.1 l (λ e. off (sym found.2 ∙ ap t.basic (sym e)))))
-        (λ none. inr (way_other t solved j v none other))
-        (find_row t.height t.basic v))
+      (λ (found : (i : ℕ) × (i < t.height) × (t.basic i ≡ v)). inl (ap (λ (x : ℕ). u.at k x) (sym found.2) ∙ clear' found.0 k found.1 l (λ e. off (sym found.2 ∙ ap t.basic (sym e)))))
+      (λ none. inr (way_other t solved j v none other))
+      (find_row t.height t.basic v))
 
   base_sum : (k : ℕ) → k < t.height → sum_from u.width 0 (λ v. u.at k v *ℤ base t v) ≡ u.at k (t.basic k) *ℤ base t (t.basic k)
   base_sum k l =
       link_alone u.width (u.at k) (base t) (t.basic k) (omega (arith, solved.within k l, width))
       (λ v h off. ⊎_elim
-        (λ (found : (i : ℕ) × (i < t.height) × (t.basic i ≡ v)). inl (ap (λ (x : ℕ). u.at k x) (sym found.2) ∙ clear' found.0 k found.1 l (λ e. off (sym found.2 ∙ ap t.basic (sym e)))))
-        (λ none. inr (base_other t solved v none))
-        (find_row t.height t.basic v))
+      (λ (found : (i : ℕ) × (i < t.height) × (t.basic i ≡ v)). inl (ap (λ (x : ℕ). u.at k x) (sym found.2) ∙ clear' found.0 k found.1 l (λ e. off (sym found.2 ∙ ap t.basic (sym e)))))
+      (λ none. inr (base_other t solved v none))
+      (find_row t.height t.basic v))
 
 -- both are solutions of t itself
 own_times : (t : Tableau) (k : ℕ) → k < t.height → own t k *ℤ others t.height k (own t) ≡ product t.height (own t)
@@ -144,11 +144,11 @@ module _ (t u : Tableau) (solved : IsSolved t) (solved' : IsSolved u) (height : 
   same_column j k non lt l =
       let o = others t.height k (own t) in
       let z : u.at k (t.basic k) *ℤ neg_ℤ (o *ℤ t.at k j) +ℤ u.at k j *ℤ product t.height (own t) ≡ pos 0 =
-        ap (λ (x : ℤ). u.at k (t.basic k) *ℤ x +ℤ u.at k j *ℤ product t.height (own t)) (sym (way_basic t solved j k l))
-        ∙ ap (λ (x : ℤ). u.at k (t.basic k) *ℤ way t j (t.basic k) +ℤ u.at k j *ℤ x) (sym (way_self t solved j non))
-        ∙ sym (way_sum t u solved solved' height width basic j k non lt l)
-        ∙ kept (way t j) (pos 0) (way_holds t solved j non lt) k (omega (arith, l, height))
-        ∙ zero_times (u.right k) (pos 0) refl in
+      ap (λ (x : ℤ). u.at k (t.basic k) *ℤ x +ℤ u.at k j *ℤ product t.height (own t)) (sym (way_basic t solved j k l))
+      ∙ ap (λ (x : ℤ). u.at k (t.basic k) *ℤ way t j (t.basic k) +ℤ u.at k j *ℤ x) (sym (way_self t solved j non))
+      ∙ sym (way_sum t u solved solved' height width basic j k non lt l)
+      ∙ kept (way t j) (pos 0) (way_holds t solved j non lt) k (omega (arith, l, height))
+      ∙ zero_times (u.right k) (pos 0) refl in
       cancel o _ _ (others_positive t.height k (own t) (λ i h. solved.positive i h)) (across (own t k) (u.at k (t.basic k)) o (t.at k j) (u.at k j) (product t.height (own t)) (own_times t k l) z)
 
   same_right : (k : ℕ) → k < t.height → u.at k (t.basic k) *ℤ t.right k ≡ own t k *ℤ u.right k
@@ -156,13 +156,13 @@ module _ (t u : Tableau) (solved : IsSolved t) (solved' : IsSolved u) (height : 
       let o = others t.height k (own t) in
       let D' = leaf (u.at k (t.basic k)) in
       let z : u.at k (t.basic k) *ℤ (o *ℤ t.right k) ≡ u.right k *ℤ (own t k *ℤ o) =
-        ap (λ (x : ℤ). u.at k (t.basic k) *ℤ x) (sym (base_basic t solved k l))
-        ∙ sym (base_sum t u solved solved' height width basic k l)
-        ∙ kept (base t) (product t.height (own t)) (base_holds t solved) k (omega (arith, l, height))
-        ∙ ap (λ (x : ℤ). u.right k *ℤ x) (sym (own_times t k l)) in
+      ap (λ (x : ℤ). u.at k (t.basic k) *ℤ x) (sym (base_basic t solved k l))
+      ∙ sym (base_sum t u solved solved' height width basic k l)
+      ∙ kept (base t) (product t.height (own t)) (base_holds t solved) k (omega (arith, l, height))
+      ∙ ap (λ (x : ℤ). u.right k *ℤ x) (sym (own_times t k l)) in
       cancel o _ _ (others_positive t.height k (own t) (λ i h. solved.positive i h))
       (same (times (leaf o) (times D' (leaf (t.right k)))) (times D' (times (leaf o) (leaf (t.right k)))) (omega arith) ∙ z
-       ∙ same (times (leaf (u.right k)) (times (leaf (own t k)) (leaf o))) (times (leaf o) (times (leaf (own t k)) (leaf (u.right k)))) (omega arith))
+      ∙ same (times (leaf (u.right k)) (times (leaf (own t k)) (leaf o))) (times (leaf o) (times (leaf (own t k)) (leaf (u.right k)))) (omega arith))
 
   -- each entry of a row, over the basic one, is the same
   same_at : (k v : ℕ) → k < t.height → v < t.width → u.at k (t.basic k) *ℤ t.at k v ≡ own t k *ℤ u.at k v
@@ -184,10 +184,10 @@ in_proportion : (d d' : ℤ) (row row' : List ℤ) → pos 0 <ℤ d → pos 0 <�
     → ((q : ℕ) → q < length row → d' *ℤ get_or row q (pos 0) ≡ d *ℤ get_or row' q (pos 0)) → row ≡ row'
 in_proportion d d' row row' above above' lowest lowest' wide each =
     let scaled : map (λ x. pos (unsigned_abs d') *ℤ x) row ≡ map (λ x. pos (unsigned_abs d) *ℤ x) row' =
-      ext_get_or (pos 0) _ _ (length-map row _ ∙ wide ∙ sym (length-map row' _))
-      (λ q h. let within : q < length row = omega (arith, h, length-map row (λ x. pos (unsigned_abs d') *ℤ x)) in
-        scaled_at (unsigned_abs d') row q ∙ ap (λ (m : ℤ). m *ℤ get_or row q (pos 0)) (sym (positive_is d' above')) ∙ each q within
-        ∙ ap (λ (m : ℤ). m *ℤ get_or row' q (pos 0)) (positive_is d above) ∙ sym (scaled_at (unsigned_abs d) row' q)) in
+    ext_get_or (pos 0) _ _ (length-map row _ ∙ wide ∙ sym (length-map row' _))
+    (λ q h. let within : q < length row = omega (arith, h, length-map row (λ x. pos (unsigned_abs d') *ℤ x)) in
+    scaled_at (unsigned_abs d') row q ∙ ap (λ (m : ℤ). m *ℤ get_or row q (pos 0)) (sym (positive_is d' above')) ∙ each q within
+    ∙ ap (λ (m : ℤ). m *ℤ get_or row' q (pos 0)) (positive_is d above) ∙ sym (scaled_at (unsigned_abs d) row' q)) in
     sym (scaled_primitive (unsigned_abs d') row (omega (arith, ints, above')) lowest) ∙ ap primitive scaled ∙ scaled_primitive (unsigned_abs d) row' (omega (arith, ints, above)) lowest'
   where
     scaled_at : (p : ℕ) (xs : List ℤ) (q : ℕ) → get_or (map (λ x. pos p *ℤ x) xs) q (pos 0) ≡ pos p *ℤ get_or xs q (pos 0)
@@ -198,15 +198,15 @@ pub forms_are_one : (t u : Table) → IsShaped t → IsShaped u → IsReduced t 
     → ((y : ℕ → ℤ) (d : ℤ) → Holds (tableau t) y d → Holds (tableau u) y d) → t ≡ u
 forms_are_one t u shape shape' reduced reduced' width basis kept =
     make_same t.variables u.variables t.rows u.rows t.basis u.basis (sym width)
-      (ext_get_or [] t.rows u.rows (sym height) (λ k l. in_proportion (own (tableau t) k) (entry u k (get_or t.basis k 0)) (row_of t k) (row_of u k)
-        (shape.solved.positive k l) (subst (λ (b : List ℕ). pos 0 <ℤ entry u k (get_or b k 0)) basis (shape'.solved.positive k (omega (arith, l, height))))
-        (let r = reduced k [] l in r.1) (let r = reduced' k [] (omega (arith, l, height)) in r.1)
-        (shape.widths k l ∙ ap (λ (n : ℕ). n + 1) (sym width) ∙ sym (shape'.widths k (omega (arith, l, height))))
-        (λ q h. ⊎_elim
-          (λ (e : q ≡ t.variables). subst (λ (x : ℕ). entry u k (get_or t.basis k 0) *ℤ entry t k x ≡ own (tableau t) k *ℤ entry u k x) (sym e) (right_at k l))
-          (λ apart. same_at (tableau t) (tableau u) shape.solved shape'.solved height width (λ i _. ap (λ (b : List ℕ). get_or b i 0) basis) kept k q l (omega (arith, h, shape.widths k l, apart)))
-          (cases_eq q t.variables))))
-      (sym basis)
+    (ext_get_or [] t.rows u.rows (sym height) (λ k l. in_proportion (own (tableau t) k) (entry u k (get_or t.basis k 0)) (row_of t k) (row_of u k)
+    (shape.solved.positive k l) (subst (λ (b : List ℕ). pos 0 <ℤ entry u k (get_or b k 0)) basis (shape'.solved.positive k (omega (arith, l, height))))
+    (let r = reduced k [] l in r.1) (let r = reduced' k [] (omega (arith, l, height)) in r.1)
+    (shape.widths k l ∙ ap (λ (n : ℕ). n + 1) (sym width) ∙ sym (shape'.widths k (omega (arith, l, height))))
+    (λ q h. ⊎_elim
+    (λ (e : q ≡ t.variables). subst (λ (x : ℕ). entry u k (get_or t.basis k 0) *ℤ entry t k x ≡ own (tableau t) k *ℤ entry u k x) (sym e) (right_at k l))
+    (λ apart. same_at (tableau t) (tableau u) shape.solved shape'.solved height width (λ i _. ap (λ (b : List ℕ). get_or b i 0) basis) kept k q l (omega (arith, h, shape.widths k l, apart)))
+    (cases_eq q t.variables))))
+    (sym basis)
   where
     height : length u.rows ≡ length t.rows
     height = sym shape'.basics ∙ ap length basis ∙ shape.basics

@@ -132,11 +132,11 @@ own_positive s b is l no_column =
     (λ k row. subst (λ (x : ℤ). pos 0 <ℤ x) (sym (row.entries b ∙ kept_own s k b row.place)) (is.positive k (is.kept b k l row.place)))
     (λ p j row. let good = is.pairs b p l row.pair in let one = row.entries b ∙ pair_first b p.other b refl (λ e. good.1 (sym e)) in omega (arith, ints, one))
     (λ p k row. let good = is.pairs b p l row.pair in
-      let one : pair_entry b p.other b ≡ pos 1 = pair_first b p.other b refl (λ e. good.1 (sym e)) in
-      let none : kept_entry s k b ≡ pos 0 = ap (entry_at s k) row.place in
-      let all : entry_of s b b ≡ own s k *ℤ pos 1 -ℤ pos 0 = row.entries b ∙ ap (λ (x : ℤ). own s k *ℤ x -ℤ kept_entry s k b) one ∙ ap (λ (x : ℤ). own s k *ℤ pos 1 -ℤ x) none in
-      let above = is.positive k (is.kept p.other k good.0 row.other) in
-      omega (arith, ints, all, above))
+    let one : pair_entry b p.other b ≡ pos 1 = pair_first b p.other b refl (λ e. good.1 (sym e)) in
+    let none : kept_entry s k b ≡ pos 0 = ap (entry_at s k) row.place in
+    let all : entry_of s b b ≡ own s k *ℤ pos 1 -ℤ pos 0 = row.entries b ∙ ap (λ (x : ℤ). own s k *ℤ x -ℤ kept_entry s k b) one ∙ ap (λ (x : ℤ). own s k *ℤ pos 1 -ℤ x) none in
+    let above = is.positive k (is.kept p.other k good.0 row.other) in
+    omega (arith, ints, all, above))
 
 pub other_clear : (s : Store) (b v : ℕ) → IsStore s → b < variables_of s → v < variables_of s → v ≢ b → ((j : ℕ) → place_of s b ≢ Column j) → ((j : ℕ) → place_of s v ≢ Column j) → entry_of s b v ≡ pos 0
 other_clear s b v is l m apart no_column away =
@@ -144,25 +144,25 @@ other_clear s b v is l m apart no_column away =
     (λ k row. row.entries v ∙ kept_none s k b v is l m row.place apart away)
     (λ p j row. row.entries v ∙ pair_none b p.other v apart (λ e. away j (ap (place_of s) e ∙ row.other)))
     (λ p k row. let good = is.pairs b p l row.pair in
-      ⊎_elim
-      (λ (e : v ≡ p.other).
-        let one : pair_entry b p.other v ≡ pos 1 = pair_second b p.other v apart e in
-        let mine : kept_entry s k v ≡ own s k = kept_own s k v (ap (place_of s) e ∙ row.other) in
-        let all : entry_of s b v ≡ own s k *ℤ pos 1 -ℤ own s k = row.entries v ∙ ap (λ (x : ℤ). own s k *ℤ x -ℤ kept_entry s k v) one ∙ ap (λ (x : ℤ). own s k *ℤ pos 1 -ℤ x) mine in
-        omega (arith, ints, all))
-      (λ off.
-        let none : pair_entry b p.other v ≡ pos 0 = pair_none b p.other v apart off in
-        let mine : kept_entry s k v ≡ pos 0 = kept_none s k p.other v is good.0 m row.other off away in
-        let all : entry_of s b v ≡ own s k *ℤ pos 0 -ℤ pos 0 = row.entries v ∙ ap (λ (x : ℤ). own s k *ℤ x -ℤ kept_entry s k v) none ∙ ap (λ (x : ℤ). own s k *ℤ pos 0 -ℤ x) mine in
-        omega (arith, ints, all))
-      (cases_eq v p.other))
+    ⊎_elim
+    (λ (e : v ≡ p.other).
+    let one : pair_entry b p.other v ≡ pos 1 = pair_second b p.other v apart e in
+    let mine : kept_entry s k v ≡ own s k = kept_own s k v (ap (place_of s) e ∙ row.other) in
+    let all : entry_of s b v ≡ own s k *ℤ pos 1 -ℤ own s k = row.entries v ∙ ap (λ (x : ℤ). own s k *ℤ x -ℤ kept_entry s k v) one ∙ ap (λ (x : ℤ). own s k *ℤ pos 1 -ℤ x) mine in
+    omega (arith, ints, all))
+    (λ off.
+    let none : pair_entry b p.other v ≡ pos 0 = pair_none b p.other v apart off in
+    let mine : kept_entry s k v ≡ pos 0 = kept_none s k p.other v is good.0 m row.other off away in
+    let all : entry_of s b v ≡ own s k *ℤ pos 0 -ℤ pos 0 = row.entries v ∙ ap (λ (x : ℤ). own s k *ℤ x -ℤ kept_entry s k v) none ∙ ap (λ (x : ℤ). own s k *ℤ pos 0 -ℤ x) mine in
+    omega (arith, ints, all))
+    (cases_eq v p.other))
 
 pub store_solved : (s : Store) → IsStore s → IsSolved (tableau (table_of s))
 store_solved s is = record {
   within = λ i h. is.basics i (low i h);
   positive = λ i h. subst (λ (x : ℤ). pos 0 <ℤ x) (sym (entry_is s i (get_or s.basis i 0) (low i h) (is.basics i (low i h)))) (own_positive s (get_or s.basis i 0) is (is.basics i (low i h)) (λ j. is.basic_place i j (low i h)));
   clear = λ i k h l apart. entry_is s k (get_or s.basis i 0) (low k l) (is.basics i (low i h))
-    ∙ other_clear s (get_or s.basis k 0) (get_or s.basis i 0) is (is.basics k (low k l)) (is.basics i (low i h)) (is.one_basic i k (low i h) (low k l) (λ e. apart (sym e)))
+      ∙ other_clear s (get_or s.basis k 0) (get_or s.basis i 0) is (is.basics k (low k l)) (is.basics i (low i h)) (is.one_basic i k (low i h) (low k l) (λ e. apart (sym e)))
       (λ j. is.basic_place k j (low k l)) (λ j. is.basic_place i j (low i h));
 }
   where

@@ -4,6 +4,7 @@
 -- two is nonbasic, it is the other's equation; where both are basic, one of them has an equation that is kept, and that of the
 -- other is the pair's, times the basic entry, less the one that is kept.
 use Rattle.std.specs.Prelude.{ℕ, ℤ, pos, ◌≡◌, ◌≢◌, ◌<◌, ◌≤◌, ◌+◌, ◌*◌, ◌+ℤ◌, ◌*ℤ◌, ◌-ℤ◌, ◌<ℤ◌, ◌==◌, if◌then◌else◌, List, [], length, map, slice_index, slice_index_or, slice_set, Bool, false, Option, Some, None}
+use lib.IntN.{neg_ℤ}
 use Rattle.std.specs.List.{range_with_len}
 use Rattle.exact_num.specs.Divisors.{IsPrimitive, primitive}
 use Rattle.row_program.specs.Forms.{Table, combination, map_from}
@@ -126,10 +127,13 @@ pub record IsStore (s : Store) : Type 0 where
 abbrev pub moved : ℕ → ℕ → List ℤ → List ℤ
 moved width j lead = slice_set (slice_set lead j (slice_index_or lead width (pos 0))) width (pos 0)
 
+-- a row, cleared of the variable in the column j by an equation whose entry there is p and stands no more in the lead
+abbrev pub cleared_by : ℕ → ℤ → List ℤ → List ℤ → List ℤ
+cleared_by j p lead row = primitive (combination p (slice_set row j (pos 0)) (slice_index_or row j (pos 0)) lead)
+
 -- a slot's row, cleared of the entering variable
 abbrev pub cleared : ℕ → ℕ → List ℤ → List ℤ → List ℤ
-cleared width j lead row =
-    primitive (combination (slice_index_or lead j (pos 0)) (slice_set row j (pos 0)) (slice_index_or row j (pos 0)) (moved width j lead))
+cleared width j lead row = cleared_by j (slice_index_or lead j (pos 0)) (moved width j lead) row
 
 -- what the entering variable's own slot keeps
 abbrev pub taken : ℕ → ℕ → List ℤ → List ℤ
@@ -139,8 +143,11 @@ abbrev pub is_slot : Option ℕ → ℕ → Bool
 is_slot None k = false
 is_slot (Some l) k = l == k
 
+abbrev pub next_by : ℕ → ℕ → ℤ → List ℤ → Option ℕ → ℕ → List ℤ → List ℤ
+next_by width j p lead slot k row = if is_slot slot k then slice_set lead width p else cleared_by j p lead row
+
 abbrev pub next_short : ℕ → ℕ → List ℤ → Option ℕ → ℕ → List ℤ → List ℤ
-next_short width j lead slot k row = if is_slot slot k then taken width j lead else cleared width j lead row
+next_short width j lead slot k row = next_by width j (slice_index_or lead j (pos 0)) (moved width j lead) slot k row
 
 -- the form after the variable e, in the column j, took the place of the basic variable b of the equation r
 abbrev pub exchanged : Store → ℕ → ℕ → ℕ → ℕ → List ℤ → Option ℕ → Store
@@ -151,3 +158,28 @@ exchanged s r b e j lead slot = record {
   pairs = s.pairs;
   rows = map_from (next_short s.width j lead slot) 0 s.rows;
 }
+
+-- ---- the other equation of a pair is kept
+-- the pair's equation, times the basic entry, less the row that a slot keeps
+abbrev pub mirrored : ℕ → ℤ → List ℤ → List ℤ
+mirrored width sum row =
+    slice_set (slice_set (map neg_ℤ row) width (slice_index_or row width (pos 0)))
+    (width + 1) (slice_index_or row width (pos 0) *ℤ sum -ℤ slice_index_or row (width + 1) (pos 0))
+
+-- the slot k keeps the equation of b in place of that of its pair's other variable
+abbrev pub flipped : Store → ℕ → Pair → ℕ → Store
+flipped s b pair k = record {
+  width = s.width;
+  basis = s.basis;
+  places = slice_set (slice_set s.places b (Kept k)) pair.other Paired;
+  pairs = s.pairs;
+  rows = slice_set s.rows k (mirrored s.width pair.sum (short_row s k));
+}
+
+-- ---- the lead of a pair's equation
+-- w columns, of which the one with the number j has the entry 1, the entry 1 and the sum
+abbrev pub pair_lead : ℕ → ℕ → ℤ → ℕ → ℤ
+pair_lead w j sum i = if i == j then pos 1 else (if i == w then pos 1 else (if i == w + 1 then sum else pos 0))
+
+abbrev pub pair_row : ℕ → ℕ → ℤ → List ℤ
+pair_row w j sum = map (pair_lead w j sum) (range_with_len 0 (w + 2))

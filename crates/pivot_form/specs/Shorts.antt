@@ -1,8 +1,8 @@
 -- What a form that is kept by slots and pairs stands for.
-use Rattle.std.specs.Prelude.{ℕ, ◌≡◌, ◌≢◌, ◌<◌, ◌+◌, ◌^◌, Some, length, unsigned_abs}
+use Rattle.std.specs.Prelude.{ℕ, ◌≡◌, ◌≢◌, ◌<◌, ◌+◌, ◌^◌, ◌⊎◌, Some, length, unsigned_abs}
 use Rattle.row_program.specs.declared.limits.TheConstants.{TERM_LIMIT}
 use Rattle.pivot_form.specs.declared.places.Pair.{Pair}
-use Rattle.pivot_form.specs.declared.places.Place.TheVariants.{Column}
+use Rattle.pivot_form.specs.declared.places.Place.TheVariants.{Column, Paired}
 use Rattle.pivot_form.specs.declared.short.Short.{Short}
 use Rattle.pivot_form.specs.Invariant.{IsForm, row_lists}
 use Rattle.pivot_form.specs.Kept.{IsStore, Store, pair_of, place_of, table_of, variables_of}
@@ -27,3 +27,7 @@ pub record IsShort (s : Store) : Type 0 where
 pub record IsBasic (s : Store) (b : ℕ) : Type 0 where
   pub within : b < variables_of s
   pub no_column : (j : ℕ) → place_of s b ≢ Column j
+
+-- the equation of the basic variable is kept, or its pair's other variable is nonbasic
+abbrev pub StandsAlone : Store → ℕ → Type 0
+StandsAlone s b = (place_of s b ≢ Paired) ⊎ ((p : Pair) × (pair_of s b ≡ Some p) × ((j : ℕ) × (place_of s p.other ≡ Column j)))

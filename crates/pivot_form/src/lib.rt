@@ -6,6 +6,8 @@
 //! tools and on the definitions of `row_program`.
 #![tactic(auto)]
 
+mod clearing;
+mod exchanges;
 mod first;
 mod form;
 mod pairs;
@@ -13,5 +15,6 @@ mod places;
 mod rows;
 mod short;
 mod start;
+mod whole_rows;
 
 pub use form::{Form, Wide};

@@ -2,14 +2,14 @@
 ghost use Rattle.std.specs.Prelude.{◌≡◌, ◌<◌, ℤ, pos, ◌<ℤ◌, ◌≢◌, unsigned_abs, length, MatchResult, Some, None, slice_index_or, if◌then◌else◌, map};
 ghost use Rattle.std.specs.List.{All};
 ghost use lib.IntN.{neg_ℤ};
-ghost use Rattle.exact_num.specs.Divisors.{IsPrimitive};
+ghost use Rattle.exact_num.specs.Divisors.{IsPrimitive, primitive};
 ghost use Rattle.row_program.specs.Forms.{combination, eliminated, first_large, turned};
 
 use crate::Wide;
 use exact_num::{Ratio, WIDE, cross, reduce_row};
 
 /// Writes p times the row less q times the lead.
-fn combine(out: &mut [i128], p: i64, row: &[i64], q: i64, lead: &[i64])
+pub(crate) fn combine(out: &mut [i128], p: i64, row: &[i64], q: i64, lead: &[i64])
     requires same_row { length row.now ≡ length out.old }
     requires same_lead { length lead.now ≡ length out.old }
     requires small_p { unsigned_abs p < WIDE }
@@ -24,7 +24,7 @@ fn combine(out: &mut [i128], p: i64, row: &[i64], q: i64, lead: &[i64])
 }
 
 /// The size of the first entry of 63 bits or more.
-fn find_large(row: &[i128]) -> Option<u128>
+pub(crate) fn find_large(row: &[i128]) -> Option<u128>
     ensures { result ≡ first_large row.now }
 {
     for x in row {
@@ -37,7 +37,7 @@ fn find_large(row: &[i128]) -> Option<u128>
 }
 
 /// Copies the wide entries, none of which is large.
-fn store(row: &mut [i64], wide: &[i128])
+pub(crate) fn store(row: &mut [i64], wide: &[i128])
     requires same { length wide.now ≡ length row.old }
     requires small { All (λ x. unsigned_abs x < WIDE) wide.now }
     ensures { row.new ≡ wide.now }
@@ -47,9 +47,25 @@ fn store(row: &mut [i64], wide: &[i128])
     }
 }
 
-/// Writes the row, cleared in the column by the lead and divided by its greatest common divisor. The fraction of the lead
-/// that is taken away is brought to lowest terms first, which makes the products smaller.
-fn clear(out: &mut [i128], row: &[i64], lead: &[i64], column: usize)
+/// Writes p times the row less q times the lead, divided by its greatest common divisor. The fraction of the lead that is
+/// taken away is brought to lowest terms first, which makes the products smaller.
+pub(crate) fn clear_by(out: &mut [i128], p: i64, row: &[i64], q: i64, lead: &[i64])
+    requires same_row { length row.now ≡ length out.old }
+    requires same_lead { length lead.now ≡ length out.old }
+    requires small_p { unsigned_abs p < WIDE }
+    requires small_q { unsigned_abs q < WIDE }
+    requires small_row { All (λ x. unsigned_abs x < WIDE) row.now }
+    requires small_lead { All (λ x. unsigned_abs x < WIDE) lead.now }
+    requires positive { pos 0 <ℤ p }
+    ensures { out.new ≡ primitive (combination p row.now q lead.now) }
+{
+    let factor = Ratio::new(q, p);
+    combine(out, factor.den, row, factor.num, lead);
+    reduce_row(out);
+}
+
+/// Writes the row, cleared in the column by the lead and divided by its greatest common divisor.
+pub(crate) fn clear(out: &mut [i128], row: &[i64], lead: &[i64], column: usize)
     requires same_row { length row.now ≡ length out.old }
     requires same_lead { length lead.now ≡ length out.old }
     requires within { column < length row.now }
@@ -58,9 +74,7 @@ fn clear(out: &mut [i128], row: &[i64], lead: &[i64], column: usize)
     requires positive { pos 0 <ℤ slice_index_or lead.now column (pos 0) }
     ensures { out.new ≡ eliminated column row.now lead.now }
 {
-    let factor = Ratio::new(row[column], lead[column]);
-    combine(out, factor.den, row, factor.num, lead);
-    reduce_row(out);
+    clear_by(out, lead[column], row, row[column], lead);
 }
 
 /// Clears the row in the column by the lead.
@@ -133,7 +147,7 @@ pub(crate) fn turn(lead: &mut [i64], row: &[i64], column: usize)
 }
 
 /// Turns the sign of each entry.
-fn negate(row: &mut [i64])
+pub(crate) fn negate(row: &mut [i64])
     requires { All (λ x. unsigned_abs x < WIDE) row.old }
     ensures { row.new ≡ map neg_ℤ row.old }
 {

@@ -1,33 +1,36 @@
-use Rattle.std.proofs.Common.{arith, ap, sym, ◌∙◌, ◌≡◌, ◌<◌, ◌+◌, subst, Some}
-use Rattle.std.specs.Prelude.{ℕ, pos, ◌<ℤ◌, ◌≤ℤ◌, Option, IfSome}
-use Rattle.std.proofs.lemmas.Int.{ints}
-use Rattle.row_program.specs.Forms.{entry}
-use Rattle.lex_dual.proofs.Choices.{scan_takes, scan_leaves, scan_ends, scanned}
+use Rattle.std.proofs.Common.{arith, ap, sym, ◌∙◌, ◌≡◌, ◌≤◌, ◌<◌, ◌+◌, List, length, take, inl, inr, ◌⊎◌}
+use Rattle.std.specs.Prelude.{ℕ, slice_get}
+use Rattle.std.proofs.lemmas.List.{with_items_is}
+use Rattle.row_program.specs.Method.{value_count}
+use Rattle.lex_dual.specs.Choices.{entering_among}
+use Rattle.lex_dual.proofs.Tables.{length-places_of}
+use Rattle.lex_dual.proofs.Thinning.{among_begins, among_ends}
 use Rattle.lex_dual.proofs.choice.entering.Goals as goal
-use Rattle.lex_dual.proofs.choice.entering.Goals.{then-entry-lt0, else-entry-lt0}
+use Rattle.lex_dual.proofs.choice.entering.Goals.{else-loop-v-test, then-loop-v-test+then-len-lt2}
 
-pub loop-j-preserved : goal.loop-j-preserved
-loop-j-preserved c =
-    let t = c.args.form.now in
-    let row = c.args.row in
-    let j = c.loop-j.j in
-    let inside : j < t.variables = omega arith in
-    elim c.if-entry-lt0.branch [
-      | then-entry-lt0 w ↦
-          let low : entry t row j <ℤ pos 0 = omega (arith, ints, w.if-entry-lt0.true, c.entry.ensures) in
-          let best : c.if-entry-lt0.best ≡ Some w.lesser.result = w.best-is in
-          record {
-            value = ap (λ (b : Option ℕ). scanned t row b (j + 1)) (best ∙ ap (λ (n : ℕ). Some n) w.lesser.ensures.value) ∙ sym (scan_takes t row c.loop-j.best j inside low) ∙ c.loop-j.invariant.value;
-            candidate = subst (λ (b : Option ℕ). IfSome b (λ i. (i < t.variables) × (entry t row i <ℤ pos 0))) (sym best) (w.lesser.ensures.within, w.lesser.ensures.candidate);
-          }
-      | else-entry-lt0 w ↦
-          let high : pos 0 ≤ℤ entry t row j = omega (arith, ints, w.if-entry-lt0.false, c.entry.ensures) in
-          let best = w.best-is in
-          record {
-            value = ap (λ (b : Option ℕ). scanned t row b (j + 1)) best ∙ sym (scan_leaves t row c.loop-j.best j inside high) ∙ c.loop-j.invariant.value;
-            candidate = subst (λ (b : Option ℕ). IfSome b (λ i. (i < t.variables) × (entry t row i <ℤ pos 0))) (sym best) c.loop-j.invariant.candidate;
-          }
-    ]
+pub loop-v-init : goal.loop-v-init
+loop-v-init c =
+    record {
+      value = ap (entering_among c.args.form.now c.args.row 0) c.write_candidates.ensures.value ∙ among_begins c.args.form.now c.args.row;
+      all = c.write_candidates.ensures.all;
+      room = c.write_candidates.ensures.room;
+    }
+
+pub loop-v-preserved : goal.loop-v-preserved
+loop-v-preserved c =
+    let same_length : length c.thin_out-kept.new.left ≡ c.loop-v.buffer.len = omega (arith, c.thin_out-kept.auto.left, c.as_mut_slice.ensures.len) in
+    let items : c.truncate.new.self.items ≡ take c.thin_out-kept.result c.thin_out-kept.new.left = c.truncate.ensures.items ∙ ap (take c.thin_out-kept.result) (with_items_is c.loop-v.buffer c.thin_out-kept.new.left same_length) in
+    record {
+      value = ap (entering_among c.args.form.now c.args.row (c.loop-v.v + 1)) items ∙ c.thin_out-kept.ensures.value ∙ ap (entering_among c.args.form.now c.args.row c.loop-v.v) c.as_mut_slice.ensures.value ∙ c.loop-v.invariant.value;
+      all = rw items c.thin_out-kept.ensures.all;
+      room = omega (arith, c.truncate.ensures.capacity, c.loop-v.invariant.room);
+    }
 
 pub returns-clause-value : goal.returns-clause-value
-returns-clause-value c = sym (scan_ends c.args.form.now c.args.row c.loop-j.best c.loop-j.j (omega arith)) ∙ c.loop-j.invariant.value
+returns-clause-value c =
+    let t = c.args.form.now in
+    let last : (value_count t ≤ c.loop-v.v) ⊎ (length c.loop-v.buffer.items < 2) = elim c.loop-v-test.branch [
+      | else-loop-v-test w ↦ inl (omega (arith, w.loop-v-test.false, ap length c.requires.places, length-places_of t))
+      | then-loop-v-test+then-len-lt2 w ↦ inr (omega (arith, w.if-len-lt2.true, w.len.ensures, c.loop-v.buffer.ok.0))
+    ] in
+    c.copied.ensures ∙ c.first.ensures.value ∙ ap (λ (js : List ℕ). slice_get js 0) c.deref.ensures.value ∙ sym (among_ends t c.args.row c.loop-v.v c.loop-v.buffer.items last) ∙ c.loop-v.invariant.value

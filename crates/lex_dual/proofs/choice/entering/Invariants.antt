@@ -1,12 +1,12 @@
-use Rattle.std.proofs.Common.{◌≡◌, ◌<◌}
-use Rattle.std.specs.Prelude.{pos, ◌<ℤ◌, IfSome}
-use Rattle.row_program.specs.Forms.{entry}
+use Rattle.std.proofs.Common.{◌≡◌, ◌≤◌, vec_capacity}
+use Rattle.std.specs.List.{All}
 use Rattle.row_program.specs.Method.{entering}
-use Rattle.lex_dual.proofs.Choices.{scanned}
+use Rattle.lex_dual.specs.Choices.{IsCandidate, entering_among}
 use Rattle.lex_dual.proofs.choice.entering.Given as goal
 
-abbrev pub invariant-loop-j : goal.invariant-loop-j
-invariant-loop-j l = record {
-  value : scanned l.form l.row l.best l.j ≡ entering l.form l.row;
-  candidate : IfSome l.best (λ j. (j < l.form.variables) × (entry l.form l.row j <ℤ pos 0));
+abbrev pub invariant-loop-v : goal.invariant-loop-v
+invariant-loop-v l = record {
+  value : entering_among l.form l.row l.v l.buffer.items ≡ entering l.form l.row;
+  all : All (IsCandidate l.form l.row) l.buffer.items;
+  room : l.form.variables ≤ vec_capacity l.buffer;
 }

@@ -7,7 +7,7 @@ use Rattle.lex_dual.specs.Choices.{places_of}
 use Rattle.lex_dual.specs.Reached.{IsReached}
 use Rattle.dual_theory.proofs.Rising.{rises, none_twice, columns_positive}
 use Rattle.dual_theory.proofs.Wide.{wide_size}
-use Rattle.lex_dual.proofs.Reaching.{reached_next, enters_nonbasic, leaves_not_cost, wide_next, falls}
+use Rattle.lex_dual.proofs.Reaching.{reached_variables, reached_next, enters_nonbasic, leaves_not_cost, wide_next, falls}
 use Rattle.lex_dual.proofs.method.solve.Goals as goal
 
 pub returns-in_err-form-clause-rises : goal.returns-in_err-form-clause-rises
@@ -27,6 +27,15 @@ returns-in_err-places-clause-none_twice c = none_twice c.args.program.now
 
 pub returns-in_err-places-clause-columns : goal.returns-in_err-places-clause-columns
 returns-in_err-places-clause-columns c = columns_positive c.args.program.now
+
+pub returns-in_err-buffer-clause-rises : goal.returns-in_err-buffer-clause-rises
+returns-in_err-buffer-clause-rises c = rises c.args.program.now
+
+pub returns-in_err-buffer-clause-none_twice : goal.returns-in_err-buffer-clause-none_twice
+returns-in_err-buffer-clause-none_twice c = none_twice c.args.program.now
+
+pub returns-in_err-buffer-clause-columns : goal.returns-in_err-buffer-clause-columns
+returns-in_err-buffer-clause-columns c = columns_positive c.args.program.now
 
 pub returns-in_default-entering-clause-rises : goal.returns-in_default-entering-clause-rises
 returns-in_default-entering-clause-rises c = rises c.args.program.now
@@ -54,6 +63,9 @@ returns-clause-none_twice c = none_twice c.args.program.now
 
 pub returns-clause-columns : goal.returns-clause-columns
 returns-clause-columns c = columns_positive c.args.program.now
+
+pub entering-requires-clause-room : goal.entering-requires-clause-room
+entering-requires-clause-room c = omega (arith, reached_variables c.args.program.now c.loop-row.form c.loop-row.invariant.reached, c.loop-row.invariant.room)
 
 pub exchange-requires-clause-nonbasic : goal.exchange-requires-clause-nonbasic
 exchange-requires-clause-nonbasic c = enters_nonbasic c.args.program.now c.loop-row.form c.loop-row.invariant.reached c.in-Some.row (sym c.in-Some.ensures.value) c.in-Some-entering.column (sym c.in-Some-entering.ensures.value)
@@ -89,4 +101,5 @@ loop-row-preserved c =
     record {
       reached = subst (IsReached p) (sym next) (reached_next p c.loop-row.form c.loop-row.invariant.reached c.in-Some.row (sym c.in-Some.ensures.value) c.in-Some-entering.column (sym c.in-Some-entering.ensures.value) c.in_ok-form-2.ensures.narrow);
       places = with_items_is c.loop-row.places c.exchange.new.places same_length ∙ c.exchange.ensures ∙ ap places_of (sym next);
+      room = omega (arith, reached_variables p c.loop-row.form c.loop-row.invariant.reached, c.entering.ensures.room);
     }

@@ -1,0 +1,76 @@
+-- The whole equations of what is kept, as code writes them, and those that a pivot makes of them.
+use Rattle.std.proofs.Common.{ℕ, ◌≡◌, ◌≢◌, ◌<◌, ◌+◌, arith, ap, sym, ◌∙◌, ⊎_elim, List, length, get_or, drop, set, refl, false, rules, Option, None, Some}
+use Rattle.std.specs.Prelude.{ℤ, pos, ◌<ℤ◌, unsigned_abs}
+use Rattle.std.specs.List.{All}
+use Rattle.std.specs.Option.{is_some}
+use Rattle.std.proofs.lemmas.Bool.{cases_eq}
+use Rattle.std.proofs.lemmas.Bool.Decides.{nat_tests}
+use Rattle.std.proofs.lemmas.List.{get_or-set_same, get_or-set_other, length-set}
+use Rattle.std.proofs.lemmas.List.FromFn.{fill_by_all}
+use Rattle.exact_num.specs.declared.limits.TheConstants.{WIDE}
+use Rattle.row_program.specs.Forms.{eliminated, first_large, first_large_of, map_from, next_row, row_of, turned}
+use Rattle.pivot_form.specs.Kept.{Store, entry_of, right_of, row_entry, table_of, variables_of, whole_row}
+use Rattle.pivot_form.specs.Shorts.{IsBasic, IsShort}
+use Rattle.pivot_form.proofs.Equations.{eliminated_kept, none_from_small}
+use Rattle.pivot_form.proofs.NextForm.{large_past}
+use Rattle.pivot_form.proofs.Shorts.{equation}
+use Rattle.pivot_form.proofs.Whole.{height, row_at, row_entry_inside, row_entry_last}
+
+pub basic_at : (s : Store) (i : ℕ) → IsShort s → i < length s.basis → IsBasic s (get_or s.basis i 0)
+basic_at s i is l = record { within = is.store.basics i l; no_column = λ j. is.store.basic_place i j l }
+
+-- an equation that is written entry by entry
+row_written : (s : Store) (b : ℕ) (out : List ℤ) → length out ≡ variables_of s + 1 → ((v : ℕ) → v < variables_of s → get_or out v (pos 0) ≡ entry_of s b v) → get_or out (variables_of s) (pos 0) ≡ right_of s b → out ≡ whole_row s b
+row_written s b out wide entries right = fill_by_all (row_entry s b) out (variables_of s + 1) (pos 0) wide (λ v l.
+    ⊎_elim
+    (λ (e : v ≡ variables_of s). ap (λ (k : ℕ). get_or out k (pos 0)) e ∙ right ∙ sym (row_entry_last s b) ∙ ap (row_entry s b) (sym e))
+    (λ apart. let inside : v < variables_of s = omega (arith, l, apart) in entries v inside ∙ sym (row_entry_inside s b v inside))
+    (cases_eq v (variables_of s)))
+
+-- its right side is written last
+pub row_finished : (s : Store) (b n : ℕ) (out : List ℤ) (x : ℤ) → n ≡ variables_of s → length out ≡ variables_of s + 1 → ((v : ℕ) → v < n → get_or out v (pos 0) ≡ entry_of s b v) → x ≡ right_of s b → set out n x ≡ whole_row s b
+row_finished s b n out x e wide entries right = row_written s b (set out n x) (length-set out n x ∙ wide)
+    (λ v l. get_or-set_other out n v x (pos 0) (λ f. absurd (omega (arith, l, e, f))) ∙ entries v (omega (arith, l, e)))
+    (ap (λ (k : ℕ). get_or (set out n x) k (pos 0)) (sym e) ∙ get_or-set_same out n x (pos 0) (omega (arith, e, wide)) ∙ right)
+
+-- an equation that is clear in the column has no large entry in the next form
+pub clear_none : (s : Store) (b c : ℕ) (lead : List ℤ) → IsShort s → IsBasic s b → length lead ≡ variables_of s + 1 → pos 0 <ℤ get_or lead c (pos 0) → get_or (whole_row s b) c (pos 0) ≡ pos 0 → first_large (eliminated c (whole_row s b) lead) ≡ None
+clear_none s b c lead is basic wide above none =
+    let e = equation s b is basic in
+    ap first_large (eliminated_kept c (whole_row s b) lead (wide ∙ sym e.width) above none e.primitive) ∙ none_from_small (whole_row s b) e.small
+
+-- ---- the search for the first large entry
+next_row_at : (place column : ℕ) (lead : List ℤ) (i : ℕ) (row : List ℤ) → i ≡ place → next_row place column lead i row ≡ lead
+next_row_at place column lead i row e = grind (arith, nat_tests)
+
+next_row_off : (place column : ℕ) (lead : List ℤ) (i : ℕ) (row : List ℤ) → i ≢ place → next_row place column lead i row ≡ eliminated column row lead
+next_row_off place column lead i row h = grind (arith, nat_tests)
+
+-- what a pivot makes of the row with the number i
+abbrev pub made_of : Store → ℕ → ℕ → ℕ → List ℤ → List ℤ
+made_of s r c = next_row r c (turned c (row_of (table_of s) r))
+
+pub none_of : (found : Option ℕ) → is_some found ≡ false → found ≡ None
+none_of None e = refl
+none_of (Some n) e = absurd (search rules)
+
+module _ (s : Store) (r c i : ℕ) (lead : List ℤ) (l : i < length s.basis) (is : lead ≡ turned c (row_of (table_of s) r)) where
+  inside : i < length (table_of s).rows
+  inside = omega (arith, l, height s)
+
+  other_row : i ≢ r → first_large (made_of s r c i (row_of (table_of s) i)) ≡ first_large (eliminated c (whole_row s (get_or s.basis i 0)) lead)
+  other_row apart =
+      ap first_large (next_row_off r c (turned c (row_of (table_of s) r)) i (row_of (table_of s) i) apart)
+      ∙ ap (λ (x : List ℤ). first_large (eliminated c (row_of (table_of s) i) x)) (sym is)
+      ∙ ap (λ (x : List ℤ). first_large (eliminated c x lead)) (row_at s i l)
+
+  -- the pivot's own equation is small
+  pub past_pivot : i ≡ r → All (λ x. unsigned_abs x < WIDE) lead
+      → first_large_of (map_from (made_of s r c) (i + 1) (drop (i + 1) (table_of s).rows)) ≡ first_large_of (map_from (made_of s r c) i (drop i (table_of s).rows))
+  past_pivot e small = large_past (made_of s r c) (table_of s).rows i inside
+      (ap first_large (next_row_at r c (turned c (row_of (table_of s) r)) i (row_of (table_of s) i) e ∙ sym is) ∙ none_from_small lead small)
+
+  -- so is one without a large entry
+  pub past_other : i ≢ r → first_large (eliminated c (whole_row s (get_or s.basis i 0)) lead) ≡ None
+      → first_large_of (map_from (made_of s r c) (i + 1) (drop (i + 1) (table_of s).rows)) ≡ first_large_of (map_from (made_of s r c) i (drop i (table_of s).rows))
+  past_other apart none = large_past (made_of s r c) (table_of s).rows i inside (other_row apart ∙ none)
