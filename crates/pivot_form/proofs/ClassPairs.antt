@@ -1,9 +1,8 @@
 -- The pairs of a program's variables and slacks, as code finds them.
-use Rattle.std.proofs.Common.{ℕ, ◌≡◌, ◌≢◌, ◌<◌, ◌≤◌, ◌+◌, ◌-◌, arith, refl, ap, sym, ◌∙◌, ⊎_elim, subst, List, [], ◌∷◌, length, get_or, set, replicate, Some, None, Option}
-use Rattle.std.specs.Prelude.{ℤ, pos, is_some, if◌then◌else◌, Bool}
-use lib.IntN.{neg_ℤ}
-use Rattle.std.proofs.lemmas.Bool.{cases_eq, cases_lt}
-use Rattle.std.proofs.lemmas.List.{get_or-replicate, get_or_default, get_or_past, get_or-set_other, get_or-set_same, length-replicate, length-set}
+use Rattle.std.proofs.Common.{ℕ, ◌≡◌, ◌≢◌, ◌<◌, ◌+◌, ◌-◌, arith, refl, ap, sym, ◌∙◌, ⊎_elim, subst, List, length, get_or, set, Some, None, Option}
+use Rattle.std.specs.Prelude.{ℤ, pos, is_some, if◌then◌else◌}
+use Rattle.std.proofs.lemmas.Bool.{cases_eq}
+use Rattle.std.proofs.lemmas.List.{get_or_default, get_or-set_other, get_or-set_same, length-set}
 use Rattle.row_program.specs.Bounds.{IsRow}
 use Rattle.row_program.specs.declared.program.Term.{Term}
 use Rattle.row_program.specs.declared.program.Row.{Row}
@@ -21,35 +20,17 @@ class_within n row f is good =
     let d : Term = record { variable = 0; times = pos 0 } in
     subst (λ (terms : List Term). (get_or terms 0 d).variable < n) is.terms (good.within 0 d (omega (arith, ap length is.terms)))
 
-pub pairs_none : (n : ℕ) (rows : List Row) (pairs : List (Option Pair)) (w : ℕ) → pairs ≡ replicate w None → w ≡ 1 + n + length rows → ArePairs n rows 0 pairs
-pairs_none n rows pairs w is wide = record {
-  width = ap length is ∙ length-replicate w None ∙ wide;
-  both = λ v q e. let f : None ≡ Some q = sym (none v) ∙ e in cc;
-  sides = λ v q e l. let f : None ≡ Some q = sym (none v) ∙ e in cc;
-  slacks = λ v q e l. absurd (let f : None ≡ Some q = sym (none v) ∙ e in cc);
-  later = λ v l. none v;
-}
-  where
-    none_pair : Option Pair
-    none_pair = None
-
-    none : (v : ℕ) → pair_in pairs v ≡ None
-    none v = ap (λ (xs : List (Option Pair)). get_or xs v None) is ∙ ⊎_elim
-      (λ (low : v < w). get_or-replicate w v None None low)
-      (λ past. get_or_past (replicate w None) v None (omega (arith, past, length-replicate w none_pair)))
-      (cases_lt v w)
-
 -- a row that makes no pair
 pub pairs_past : (n : ℕ) (rows : List Row) (i j : ℕ) (pairs : List (Option Pair)) → ArePairs n rows i pairs → i + 1 ≡ j → ArePairs n rows j pairs
 pairs_past n rows i j pairs are h = record { width = are.width; both = are.both; sides = are.sides; slacks = are.slacks; later = λ v l. are.later v (omega (arith, l, h)) }
 
-abbrev pub two : ℕ → ℤ → Option Pair
+abbrev two : ℕ → ℤ → Option Pair
 two other sum = Some (record { other = other; sum = sum })
 
 abbrev one_set : List (Option Pair) → ℕ → ℕ → ℤ → List (Option Pair)
 one_set pairs a b c = set pairs a (two b c)
 
-abbrev pub both_set : List (Option Pair) → ℕ → ℕ → ℤ → List (Option Pair)
+abbrev both_set : List (Option Pair) → ℕ → ℕ → ℤ → List (Option Pair)
 both_set pairs a b c = set (set pairs a (two b c)) b (two a c)
 
 -- and one that makes one, of the variable f
@@ -71,32 +52,32 @@ module _ (n : ℕ) (rows : List Row) (i j f : ℕ) (c : ℤ) (pairs : List (Opti
       ⊎_elim
       (λ (at : v ≡ 1 + f). variable at (let g : Some q ≡ two (1 + n + i) c = sym e ∙ ap (pair_in (both_set pairs (1 + f) (1 + n + i) c)) at ∙ at_variable in cc))
       (λ off. ⊎_elim
-        (λ (at : v ≡ 1 + n + i). slack at (let g : Some q ≡ two (1 + f) c = sym e ∙ ap (pair_in (both_set pairs (1 + f) (1 + n + i) c)) at ∙ at_slack in cc))
-        (λ away. other off away (sym (elsewhere v off away) ∙ e))
-        (cases_eq v (1 + n + i)))
+      (λ (at : v ≡ 1 + n + i). slack at (let g : Some q ≡ two (1 + f) c = sym e ∙ ap (pair_in (both_set pairs (1 + f) (1 + n + i) c)) at ∙ at_slack in cc))
+      (λ away. other off away (sym (elsewhere v off away) ∙ e))
+      (cases_eq v (1 + n + i)))
       (cases_eq v (1 + f))
 
-  pub pairs_made : pair_in pairs (1 + f) ≡ None → ArePairs n rows j (both_set pairs (1 + f) (1 + n + i) c)
+  pairs_made : pair_in pairs (1 + f) ≡ None → ArePairs n rows j (both_set pairs (1 + f) (1 + n + i) c)
   pairs_made free = record {
     width = length-set (one_set pairs (1 + f) (1 + n + i) c) (1 + n + i) (two (1 + f) c) ∙ first_width;
     both = λ v q e. by_place v q e
-      (λ at pair. ap (λ (x : Pair). pair_in (both_set pairs (1 + f) (1 + n + i) c) x.other) pair ∙ at_slack ∙ ap (λ (x : ℕ). two x c) (sym at) ∙ ap (λ (x : Pair). two v x.sum) (sym pair))
-      (λ at pair. ap (λ (x : Pair). pair_in (both_set pairs (1 + f) (1 + n + i) c) x.other) pair ∙ at_variable ∙ ap (λ (x : ℕ). two x c) (sym at) ∙ ap (λ (x : Pair). two v x.sum) (sym pair))
-      (λ off away old. let back = are.both v q old in
+        (λ at pair. ap (λ (x : Pair). pair_in (both_set pairs (1 + f) (1 + n + i) c) x.other) pair ∙ at_slack ∙ ap (λ (x : ℕ). two x c) (sym at) ∙ ap (λ (x : Pair). two v x.sum) (sym pair))
+        (λ at pair. ap (λ (x : Pair). pair_in (both_set pairs (1 + f) (1 + n + i) c) x.other) pair ∙ at_variable ∙ ap (λ (x : ℕ). two x c) (sym at) ∙ ap (λ (x : Pair). two v x.sum) (sym pair))
+        (λ off away old. let back = are.both v q old in
         elsewhere q.other (taken q.other (1 + f) (record { other = v; sum = q.sum }) free back) (taken q.other (1 + n + i) (record { other = v; sum = q.sum }) (are.later (1 + n + i) (omega arith)) back) ∙ back);
     sides = λ v q e l. by_place v q e
-      (λ at pair. let o : q.other ≡ 1 + n + i = ap (λ (x : Pair). x.other) pair in omega (arith, o))
-      (λ at pair. absurd (omega (arith, at, l)))
-      (λ off away old. are.sides v q old l);
+        (λ at pair. let o : q.other ≡ 1 + n + i = ap (λ (x : Pair). x.other) pair in omega (arith, o))
+        (λ at pair. absurd (omega (arith, at, l)))
+        (λ off away old. are.sides v q old l);
     slacks = λ v q e l. by_place v q e
-      (λ at pair. absurd (omega (arith, at, l, low)))
-      (λ at pair. subst (IsClassPair n rows v) (sym pair) (record {
-        above = omega arith;
-        variable = omega (arith, low);
-        class_row = subst (IsClassRow (get_or rows (v - (1 + n)) empty_row)) (omega arith) (subst (λ (k : ℕ). IsClassRow (get_or rows k empty_row) f) (omega (arith, at)) is);
-        sum = sum ∙ ap (λ (k : ℕ). (get_or rows k empty_row).constant) (omega (arith, at));
-      }))
-      (λ off away old. are.slacks v q old l);
+        (λ at pair. absurd (omega (arith, at, l, low)))
+        (λ at pair. subst (IsClassPair n rows v) (sym pair) (record {
+          above = omega arith;
+          variable = omega (arith, low);
+          class_row = subst (IsClassRow (get_or rows (v - (1 + n)) empty_row)) (omega arith) (subst (λ (k : ℕ). IsClassRow (get_or rows k empty_row) f) (omega (arith, at)) is);
+          sum = sum ∙ ap (λ (k : ℕ). (get_or rows k empty_row).constant) (omega (arith, at));
+        }))
+        (λ off away old. are.slacks v q old l);
     later = λ v l. elsewhere v (λ e. absurd (omega (arith, e, l, low))) (λ e. absurd (omega (arith, e, l, next))) ∙ are.later v (omega (arith, l, next));
   }
     where

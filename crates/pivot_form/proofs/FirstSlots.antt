@@ -1,12 +1,13 @@
 -- The slots of a program's first form.
-use Rattle.std.proofs.Common.{ℕ, zero, suc, ◌≡◌, ◌≢◌, ◌<◌, ◌≤◌, ◌+◌, ◌-◌, ◌++◌, arith, refl, ap, sym, ◌∙◌, ⊎_elim, subst, List, [], ◌∷◌, length, get_or, Some, None, Option, true, false, Bool, cond, not, set, take, length-append}
+use Rattle.std.proofs.Common.{ℕ, zero, suc, ◌≡◌, ◌≢◌, ◌<◌, ◌≤◌, ◌+◌, ◌-◌, ◌++◌, arith, refl, ap, sym, ◌∙◌, ⊎_elim, subst, List, [], ◌∷◌, length, get_or, Some, None, Option, true, false, Bool, cond, drop, not, map, set, take, length-append}
 use Rattle.std.specs.Prelude.{ℤ, pos, ◌+ℤ◌, ◌==◌, is_some}
 use lib.IntN.{neg_ℤ}
-use Rattle.std.specs.List.{All, AllPairs}
+use Rattle.std.specs.List.{All, AllPairs, range_with_len}
+use Rattle.std.proofs.lemmas.List.FromFn.{map-range_with_len_more}
 use Rattle.std.proofs.lemmas.Int.{ints}
 use Rattle.std.proofs.lemmas.Bool.{cases_eq, cases_lt}
 use Rattle.std.proofs.lemmas.Bool.Decides.{nat_tests}
-use Rattle.std.proofs.lemmas.List.{get_or_append_left, get_or-append_right, get_or_default, get_or-set_other, get_or-set_same, get_or-take, length-take}
+use Rattle.std.proofs.lemmas.List.{get_or_append_left, get_or-append_right, get_or_default, get_or-drop, get_or-set_other, get_or-set_same, get_or-take, length-take}
 use Rattle.row_program.specs.declared.program.Term.{Term}
 use Rattle.row_program.specs.declared.program.Row.{Row}
 use Rattle.row_program.specs.declared.program.Program.{Program}
@@ -41,9 +42,9 @@ slots_one n pairs e d none none' same =
     ⊎_elim
     (λ (low : e < d). let apart = slots_apart n pairs e d low none in absurd (omega (arith, apart, same)))
     (λ past. ⊎_elim
-      (λ (low : d < e). let apart = slots_apart n pairs d e low none' in absurd (omega (arith, apart, same)))
-      (λ past'. omega (arith, past, past'))
-      (cases_lt d e))
+    (λ (low : d < e). let apart = slots_apart n pairs d e low none' in absurd (omega (arith, apart, same)))
+    (λ past'. omega (arith, past, past'))
+    (cases_lt d e))
     (cases_lt e d)
 
 slot_here : (n : ℕ) (pairs : List (Option Pair)) (d k : ℕ) → k < slots_before n pairs (suc d)
@@ -78,6 +79,20 @@ place_in_column n pairs v j h e = let k : v - 1 ≡ j = omega (arith, e) in firs
 
 pub place_of_slack : (n : ℕ) (pairs : List (Option Pair)) (v e : ℕ) → n + e ≡ v → 0 < e → first_place n pairs v ≡ basic_place (pair_in pairs v) (slots_before n pairs e)
 place_of_slack n pairs v e h l = let k : v - n ≡ e = omega (arith, h) in first_slack n pairs v (omega (arith, h, l)) ∙ ap (λ (x : ℕ). basic_place (pair_in pairs v) (slots_before n pairs x)) k
+
+-- one place more
+pub place_pushed : (n : ℕ) (pairs : List (Option Pair)) (v : ℕ) (x : Place) (old new : List Place) → new ≡ old ++ x ∷ [] → old ≡ map (first_place n pairs) (range_with_len 0 v) → first_place n pairs v ≡ x → new ≡ map (first_place n pairs) (range_with_len 0 (v + 1))
+place_pushed n pairs v x old new e f g =
+    e
+    ∙ ap (λ (xs : List Place). xs ++ x ∷ []) f
+    ∙ ap (λ (y : Place). map (first_place n pairs) (range_with_len 0 v) ++ y ∷ []) (sym g)
+    ∙ sym (map-range_with_len_more (first_place n pairs) 0 v v (omega arith))
+
+-- an item of what is left of the pairs behind the first a
+pub item_behind : (pairs : List (Option Pair)) (a i : ℕ) → i < length (take (length pairs - a) (drop a pairs)) → get_or (take (length pairs - a) (drop a pairs)) i None ≡ pair_in pairs (a + i)
+item_behind pairs a i h =
+    let low : i < length pairs - a = omega (arith, h, length-take (length pairs - a) (drop a pairs)) in
+    get_or-take (length pairs - a) (drop a pairs) i None low ∙ get_or-drop a pairs i None
 
 -- ---- what a test for a pair says
 none_of : (q : Option Pair) (r : Bool) → is_some q ≡ not r → r ≡ true → q ≡ None
@@ -138,7 +153,7 @@ pub slack_kept : (p : Program) (n i : ℕ) (source : Row) (row : List ℤ) → n
 slack_kept p n i source row count same wide columns mine last = record {
   width = wide ∙ ap (λ (k : ℕ). k + 2) count;
   columns = λ j h. columns j (omega (arith, h, count)) ∙ ap (λ (r : Row). neg_ℤ (coefficient r.terms j)) same
-    ∙ sym (slack_variable (length p.costs) (length p.rows) i (get_or p.rows i empty_row) (1 + j) (omega arith) (omega (arith, h)) ∙ ap (λ (k : ℕ). neg_ℤ (coefficient (get_or p.rows i empty_row).terms k)) (after j));
+      ∙ sym (slack_variable (length p.costs) (length p.rows) i (get_or p.rows i empty_row) (1 + j) (omega arith) (omega (arith, h)) ∙ ap (λ (k : ℕ). neg_ℤ (coefficient (get_or p.rows i empty_row).terms k)) (after j));
   own = ap (λ (k : ℕ). get_or row k (pos 0)) (sym count) ∙ mine;
   right = ap (λ (k : ℕ). get_or row (k + 1) (pos 0)) (sym count) ∙ last ∙ ap (λ (r : Row). r.constant) same ∙ sym (slack_constant (length p.costs) (length p.rows) i (get_or p.rows i empty_row) (variable_count p) refl);
 }
@@ -154,18 +169,18 @@ pub rows_more : (p : Program) (pairs : List (Option Pair)) (rows : List (List �
 rows_more p pairs rows row e f are h none is = record {
   height = length-append rows (row ∷ []) ∙ ap (λ (k : ℕ). k + 1) are.height ∙ sym (slots_more (length p.costs) pairs e f h ∙ ap (λ (q : Option Pair). slots_before (length p.costs) pairs e + slots_for q) none);
   each = λ d l none'. ⊎_elim
-    (λ (same : d ≡ e).
+      (λ (same : d ≡ e).
       let here : slots_before (length p.costs) pairs e - slots_before (length p.costs) pairs e ≡ 0 = omega arith in
       let there : get_or (rows ++ row ∷ []) (slots_before (length p.costs) pairs d) [] ≡ row =
-        ap (λ (x : ℕ). get_or (rows ++ row ∷ []) (slots_before (length p.costs) pairs x) []) same
-        ∙ get_or-append_right rows (row ∷ []) (slots_before (length p.costs) pairs e) (slots_before (length p.costs) pairs e) [] are.height (omega arith)
-        ∙ ap (λ (x : ℕ). get_or (row ∷ []) x []) here in
+      ap (λ (x : ℕ). get_or (rows ++ row ∷ []) (slots_before (length p.costs) pairs x) []) same
+      ∙ get_or-append_right rows (row ∷ []) (slots_before (length p.costs) pairs e) (slots_before (length p.costs) pairs e) [] are.height (omega arith)
+      ∙ ap (λ (x : ℕ). get_or (row ∷ []) x []) here in
       subst (λ (x : ℕ). IsFirstRow p x (get_or (rows ++ row ∷ []) (slots_before (length p.costs) pairs d) [])) (sym same) (subst (IsFirstRow p e) (sym there) is))
-    (λ apart.
+      (λ apart.
       let low : d < e = omega (arith, l, h, apart) in
       let slot = slots_apart (length p.costs) pairs d e low none' in
       subst (IsFirstRow p d) (sym (get_or_append_left rows (row ∷ []) [] (slots_before (length p.costs) pairs d) (omega (arith, slot, are.height)))) (are.each d low none'))
-    (cases_eq d e);
+      (cases_eq d e);
 }
 
 -- and one with none
@@ -173,9 +188,9 @@ rows_past : (p : Program) (pairs : List (Option Pair)) (rows : List (List ℤ)) 
 rows_past p pairs rows e f are h q some = record {
   height = are.height ∙ sym (slots_more (length p.costs) pairs e f h ∙ ap (λ (x : Option Pair). slots_before (length p.costs) pairs e + slots_for x) some ∙ omega arith);
   each = λ d l none. ⊎_elim
-    (λ (same : d ≡ e). let g : None ≡ Some q = sym none ∙ ap (λ (x : ℕ). pair_in pairs (first_basic (length p.costs) x)) same ∙ some in cc)
-    (λ apart. are.each d (omega (arith, l, h, apart)) none)
-    (cases_eq d e);
+      (λ (same : d ≡ e). let g : None ≡ Some q = sym none ∙ ap (λ (x : ℕ). pair_in pairs (first_basic (length p.costs) x)) same ∙ some in cc)
+      (λ apart. are.each d (omega (arith, l, h, apart)) none)
+      (cases_eq d e);
 }
 
 -- the rows of the first so many equations, at the slack of the row i

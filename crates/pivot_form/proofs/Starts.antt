@@ -1,6 +1,6 @@
 -- What is kept of a program's first form.
-use Rattle.std.proofs.Common.{ℕ, zero, suc, ◌≡◌, ◌≢◌, ◌<◌, ◌≤◌, ◌+◌, ◌-◌, arith, refl, ap, sym, ◌∙◌, ◌⊎◌, ⊎_elim, subst, inl, inr, cond, List, [], ◌∷◌, length, get_or, set, map, Some, None, Option}
-use Rattle.std.specs.Prelude.{ℤ, pos, negsuc, ◌+ℤ◌, ◌<ℤ◌, ◌==◌, unsigned_abs}
+use Rattle.std.proofs.Common.{ℕ, zero, suc, ◌≡◌, ◌≢◌, ◌<◌, ◌≤◌, ◌+◌, ◌-◌, arith, refl, ap, sym, ◌∙◌, ⊎_elim, subst, List, [], ◌∷◌, length, get_or, map, Some, None, Option}
+use Rattle.std.specs.Prelude.{ℤ, pos, negsuc, unsigned_abs}
 use lib.IntN.{neg_ℤ}
 use Prim.Native.Nat.{◌∣◌}
 use Rattle.std.specs.List.{range_with_len}
@@ -14,15 +14,14 @@ use Rattle.row_program.specs.declared.program.Term.{Term}
 use Rattle.row_program.specs.declared.program.Row.{Row}
 use Rattle.row_program.specs.declared.program.Program.{Program}
 use Rattle.row_program.specs.declared.limits.TheConstants.{TERM_LIMIT}
-use Rattle.row_program.specs.Forms.{entry, coefficient, empty_row, first_basic, first_entry, first_form, first_row, slack_entry, variable_count}
-use Rattle.exact_num.specs.Divisors.{IsPrimitive}
+use Rattle.row_program.specs.Forms.{entry, coefficient, empty_row, first_basic, first_entry, first_form, first_row, variable_count}
 use Rattle.pivot_form.specs.declared.places.Pair.{Pair}
 use Rattle.pivot_form.specs.declared.places.Place.{Place}
 use Rattle.pivot_form.specs.declared.places.Place.TheVariants.{Column, Kept, Paired}
 use Rattle.pivot_form.specs.Invariant.{IsForm}
-use Rattle.pivot_form.specs.Kept.{Store, IsStore, cell, entry_at, entry_beside, entry_by, entry_of, entry_paired, kept_entry, kept_right, own, pair_entry, pair_of, place_of, right_beside, right_by, right_of, right_paired, row_entry, short_row, table_of, variables_of, whole_row}
+use Rattle.pivot_form.specs.Kept.{Store, IsStore, entry_at, entry_beside, entry_by, entry_of, entry_paired, kept_entry, own, pair_entry, place_of, right_beside, right_by, right_of, right_paired, row_entry, table_of, variables_of, whole_row}
 use Rattle.pivot_form.specs.Shorts.{IsShort}
-use Rattle.pivot_form.specs.Starts.{AreFirstRows, ArePairs, IsClassPair, IsFirstRow, basic_place, first_place, pair_in, slots_before, slots_for}
+use Rattle.pivot_form.specs.Starts.{AreFirstRows, ArePairs, IsClassPair, IsFirstRow, basic_place, first_place, pair_in, slots_before}
 use Rattle.pivot_form.proofs.FirstForm.{basic_at, cost_own, first_at, first_is_form, first_solved, height_is, row_entry as first_cell, row_at as first_row_at, slack_constant, slack_first, slack_other, slack_own, slack_variable}
 use Rattle.pivot_form.proofs.FirstSlots.{first_column, first_slack, place_in_column, place_of_slack, slots_apart, slots_found, slots_one}
 use Rattle.pivot_form.proofs.NextForm.{make_same}
@@ -105,13 +104,13 @@ module _ (p : Program) (pairs : List (Option Pair)) (rows : List (List ℤ)) (ar
       ⊎_elim
       (λ (e : v ≡ 0). at_basic 0 (omega arith) e)
       (λ apart. ⊎_elim
-        (λ (low : v < length p.costs + 1). at_column (v - 1) (record {
-          within = omega (arith, low, apart);
-          is = omega (arith, apart);
-          place = placed v h ∙ first_column (length p.costs) pairs v (omega (arith, apart)) (omega (arith, low));
-        }))
-        (λ past. at_basic (suc (v - 1 - length p.costs)) (omega (arith, past, h)) (omega (arith, past)))
-        (cases_lt v (length p.costs + 1)))
+      (λ (low : v < length p.costs + 1). at_column (v - 1) (record {
+        within = omega (arith, low, apart);
+        is = omega (arith, apart);
+        place = placed v h ∙ first_column (length p.costs) pairs v (omega (arith, apart)) (omega (arith, low));
+      }))
+      (λ past. at_basic (suc (v - 1 - length p.costs)) (omega (arith, past, h)) (omega (arith, past)))
+      (cases_lt v (length p.costs + 1)))
       (cases_eq v 0)
     where
       at_basic : (e : ℕ) → e < length p.rows + 1 → v ≡ first_basic (length p.costs) e → P
@@ -162,9 +161,11 @@ module _ (p : Program) (pairs : List (Option Pair)) (rows : List (List ℤ)) (ar
   slack_pair v q e h =
       let class_pair = are.slacks v q e h in
       let above = class_pair.above in
-      let low = class_pair.variable in
-      (λ f. absurd (omega (arith, f, h, low)), placed q.other (omega (arith, low)) ∙ first_column (length p.costs) pairs q.other above low,
-       placed v (pair_within v q e) ∙ first_slack (length p.costs) pairs v h ∙ ap (λ (x : Option Pair). basic_place x (slots_before (length p.costs) pairs (v - length p.costs))) e)
+      let low = class_pair.variable in (
+        λ f. absurd (omega (arith, f, h, low)),
+        placed q.other (omega (arith, low)) ∙ first_column (length p.costs) pairs q.other above low,
+        placed v (pair_within v q e) ∙ first_slack (length p.costs) pairs v h ∙ ap (λ (x : Option Pair). basic_place x (slots_before (length p.costs) pairs (v - length p.costs))) e,
+      )
 
   -- a pair's facts, by its slack
   by_slack : {P : Type 0} (v : ℕ) (q : Pair) → pair_in pairs v ≡ Some q → (length p.costs < v → P) → (length p.costs < q.other → pair_in pairs q.other ≡ Some (record { other = v; sum = q.sum }) → P) → P
@@ -182,35 +183,36 @@ module _ (p : Program) (pairs : List (Option Pair)) (rows : List (List ℤ)) (ar
     one_basic = λ i k h l apart same. apart (basic_one (length p.costs) i k (sym (basis_at i h) ∙ same ∙ basis_at k l));
     basic_place = λ i j h e. no_column i j (omega (arith, h, equations)) (sym (ap (place_of (start_of p pairs rows)) (basis_at i h)) ∙ e);
     other_place = λ v h none. kind v (omega (arith, h, count))
-      (λ j is. (j, is.place))
-      (λ e is. absurd (none e (omega (arith, is.within, equations)) (basis_at e (omega (arith, is.within, equations)) ∙ sym is.is)))
-      (λ e q is. absurd (none e (omega (arith, is.within, equations)) (basis_at e (omega (arith, is.within, equations)) ∙ sym is.is)));
+        (λ j is. (j, is.place))
+        (λ e is. absurd (none e (omega (arith, is.within, equations)) (basis_at e (omega (arith, is.within, equations)) ∙ sym is.is)))
+        (λ e q is. absurd (none e (omega (arith, is.within, equations)) (basis_at e (omega (arith, is.within, equations)) ∙ sym is.is)));
     columns = λ v j h e. let of = of_column v j (omega (arith, h, count)) e in of.0;
     one_column = λ v w j h l e f. let a = of_column v j (omega (arith, h, count)) e in let b = of_column w j (omega (arith, l, count)) f in a.1 ∙ sym b.1;
     all_columns = λ j h. (1 + j, omega (arith, h, count), placed (1 + j) (omega (arith, h)) ∙ place_in_column (length p.costs) pairs (1 + j) j h refl);
     kept = λ v k h e. let of = of_kept v k (omega (arith, h, count)) e in
-      let low = slots_apart (length p.costs) pairs of.0 (length p.rows + 1) (omega (arith, of.1.within)) (ap (pair_in pairs) (sym of.1.is) ∙ of.1.pair) in
-      omega (arith, low, of.2, keep.height);
+        let low = slots_apart (length p.costs) pairs of.0 (length p.rows + 1) (omega (arith, of.1.within)) (ap (pair_in pairs) (sym of.1.is) ∙ of.1.pair) in
+        omega (arith, low, of.2, keep.height);
     one_kept = λ v w k h l e f. let a = of_kept v k (omega (arith, h, count)) e in let b = of_kept w k (omega (arith, l, count)) f in
-      let same = slots_one (length p.costs) pairs a.0 b.0 (ap (pair_in pairs) (sym a.1.is) ∙ a.1.pair) (ap (pair_in pairs) (sym b.1.is) ∙ b.1.pair) (a.2 ∙ sym b.2) in
-      a.1.is ∙ ap (first_basic (length p.costs)) same ∙ sym b.1.is;
+        let same = slots_one (length p.costs) pairs a.0 b.0 (ap (pair_in pairs) (sym a.1.is) ∙ a.1.pair) (ap (pair_in pairs) (sym b.1.is) ∙ b.1.pair) (a.2 ∙ sym b.2) in
+        a.1.is ∙ ap (first_basic (length p.costs)) same ∙ sym b.1.is;
     all_kept = λ k h. let row = slot_row k h in
-      let low : row.0 < length (first_form p).basis = omega (arith, row.1, equations) in
-      (row.0, low, ap (place_of (start_of p pairs rows)) (basis_at row.0 low) ∙ place_slot row.0 row.1 row.2 ∙ ap Kept row.3);
-    pairs = λ v q h e. let back = are.both v q e in
-      (omega (arith, pair_within q.other (record { other = v; sum = q.sum }) back, count),
-       by_slack v q e (λ low. let of = slack_pair v q e low in of.0) (λ low f g. let of = slack_pair q.other (record { other = v; sum = q.sum }) f low in of.0 (sym g)),
-       back);
+        let low : row.0 < length (first_form p).basis = omega (arith, row.1, equations) in
+        (row.0, low, ap (place_of (start_of p pairs rows)) (basis_at row.0 low) ∙ place_slot row.0 row.1 row.2 ∙ ap Kept row.3);
+    pairs = λ v q h e. let back = are.both v q e in (
+      omega (arith, pair_within q.other (record { other = v; sum = q.sum }) back, count),
+      by_slack v q e (λ low. let of = slack_pair v q e low in of.0) (λ low f g. let of = slack_pair q.other (record { other = v; sum = q.sum }) f low in of.0 (sym g)),
+      back,
+    );
     paired = λ v h e. kind v (omega (arith, h, count))
-      (λ j is. let f : Column j ≡ Paired = sym is.place ∙ e in cc)
-      (λ i is. let f : Kept (slots_before (length p.costs) pairs i) ≡ Paired = sym is.place ∙ e in cc)
-      (λ i q is. (q, is.pair, λ f. not_paired v q is.pair e f));
+        (λ j is. let f : Column j ≡ Paired = sym is.place ∙ e in cc)
+        (λ i is. let f : Kept (slots_before (length p.costs) pairs i) ≡ Paired = sym is.place ∙ e in cc)
+        (λ i q is. (q, is.pair, λ f. not_paired v q is.pair e f));
     one_paired = λ v q h e apart. by_slack v q e
-      (λ low. let of = slack_pair v q e low in absurd (apart of.2))
-      (λ low back. let of = slack_pair q.other (record { other = v; sum = q.sum }) back low in of.2);
+        (λ low. let of = slack_pair v q e low in absurd (apart of.2))
+        (λ low back. let of = slack_pair q.other (record { other = v; sum = q.sum }) back low in of.2);
     positive = λ k h. let row = slot_row k h in let own_is = row.4.own in omega (arith, ints, own_is);
     primitive = λ k h d all. let row = slot_row k h in
-      eq-one_of_dvd-one (subst (λ (x : ℤ). d ∣ unsigned_abs x) row.4.own (all (length p.costs) (pos 0) (omega (arith, row.4.width))));
+        eq-one_of_dvd-one (subst (λ (x : ℤ). d ∣ unsigned_abs x) row.4.own (all (length p.costs) (pos 0) (omega (arith, row.4.width))));
   }
     where
       no_column : (i j : ℕ) → i < length p.rows + 1 → place_of (start_of p pairs rows) (first_basic (length p.costs) i) ≡ Column j → ⊥
@@ -256,19 +258,19 @@ module _ (p : Program) (pairs : List (Option Pair)) (rows : List (List ℤ)) (ar
       kind v l
       (λ j is. ap (entry_at (start_of p pairs rows) k) is.place ∙ row.columns j is.within ∙ ap (first_entry p e) (sym is.is))
       (λ i is. ⊎_elim
-        (λ (same : i ≡ e).
-          ap (entry_at (start_of p pairs rows) k) is.place
-          ∙ entry_same (start_of p pairs rows) k (slots_before (length p.costs) pairs i) (ap (slots_before (length p.costs) pairs) same)
-          ∙ row.own ∙ sym (own_entry p e h) ∙ ap (first_entry p e) (ap (first_basic (length p.costs)) (sym same) ∙ sym is.is))
-        (λ apart.
-          ap (entry_at (start_of p pairs rows) k) is.place
-          ∙ entry_off (start_of p pairs rows) k (slots_before (length p.costs) pairs i) (λ f. apart (slots_one (length p.costs) pairs i e (ap (pair_in pairs) (sym is.is) ∙ is.pair) none f))
-          ∙ sym (other_entry p i e is.within h (λ f. apart (sym f))) ∙ ap (first_entry p e) (sym is.is))
-        (cases_eq i e))
+      (λ (same : i ≡ e).
+      ap (entry_at (start_of p pairs rows) k) is.place
+      ∙ entry_same (start_of p pairs rows) k (slots_before (length p.costs) pairs i) (ap (slots_before (length p.costs) pairs) same)
+      ∙ row.own ∙ sym (own_entry p e h) ∙ ap (first_entry p e) (ap (first_basic (length p.costs)) (sym same) ∙ sym is.is))
+      (λ apart.
+      ap (entry_at (start_of p pairs rows) k) is.place
+      ∙ entry_off (start_of p pairs rows) k (slots_before (length p.costs) pairs i) (λ f. apart (slots_one (length p.costs) pairs i e (ap (pair_in pairs) (sym is.is) ∙ is.pair) none f))
+      ∙ sym (other_entry p i e is.within h (λ f. apart (sym f))) ∙ ap (first_entry p e) (sym is.is))
+      (cases_eq i e))
       (λ i q is.
-        ap (entry_at (start_of p pairs rows) k) is.place
-        ∙ sym (other_entry p i e is.within h (λ f. let g : None ≡ Some q = sym none ∙ ap (λ (x : ℕ). pair_in pairs (first_basic (length p.costs) x)) f ∙ ap (pair_in pairs) (sym is.is) ∙ is.pair in cc))
-        ∙ ap (first_entry p e) (sym is.is))
+      ap (entry_at (start_of p pairs rows) k) is.place
+      ∙ sym (other_entry p i e is.within h (λ f. let g : None ≡ Some q = sym none ∙ ap (λ (x : ℕ). pair_in pairs (first_basic (length p.costs) x)) f ∙ ap (pair_in pairs) (sym is.is) ∙ is.pair in cc))
+      ∙ ap (first_entry p e) (sym is.is))
     where
       entry_same : (s : Store) (k l : ℕ) → l ≡ k → entry_at s k (Kept l) ≡ own s k
       entry_same s k l e = grind (arith, nat_tests)
@@ -283,16 +285,16 @@ module _ (p : Program) (pairs : List (Option Pair)) (rows : List (List ℤ)) (ar
       ⊎_elim
       (λ (same : v ≡ b). pair_first b q.other v same (λ g. absurd (omega (arith, g, same, class_pair.variable))) ∙ sym (own_entry p (suc i) h) ∙ ap (first_entry p (suc i)) (sym same))
       (λ off. ⊎_elim
-        (λ (same : v ≡ q.other). pair_second b q.other v off same
-          ∙ sym (omega (arith, ints, at_variable v same (omega (arith, same, class_pair.above)) (omega (arith, same, class_pair.variable)))))
-        (λ away. pair_none b q.other v off away ∙ sym (⊎_elim
-          (λ (z : v ≡ 0). slack_first (length p.costs) (length p.rows) i (get_or p.rows i empty_row) v z)
-          (λ past. ⊎_elim
-            (λ (low : v < length p.costs + 1). omega (arith, ints, elsewhere v away (omega (arith, past)) (omega (arith, low))))
-            (λ high. slack_other (length p.costs) (length p.rows) i (get_or p.rows i empty_row) v (omega (arith, high)) (λ g. absurd (omega (arith, g, l))) off)
-            (cases_lt v (length p.costs + 1)))
-          (cases_eq v 0)))
-        (cases_eq v q.other))
+      (λ (same : v ≡ q.other). pair_second b q.other v off same
+      ∙ sym (omega (arith, ints, at_variable v same (omega (arith, same, class_pair.above)) (omega (arith, same, class_pair.variable)))))
+      (λ away. pair_none b q.other v off away ∙ sym (⊎_elim
+      (λ (z : v ≡ 0). slack_first (length p.costs) (length p.rows) i (get_or p.rows i empty_row) v z)
+      (λ past. ⊎_elim
+      (λ (low : v < length p.costs + 1). omega (arith, ints, elsewhere v away (omega (arith, past)) (omega (arith, low))))
+      (λ high. slack_other (length p.costs) (length p.rows) i (get_or p.rows i empty_row) v (omega (arith, high)) (λ g. absurd (omega (arith, g, l))) off)
+      (cases_lt v (length p.costs + 1)))
+      (cases_eq v 0)))
+      (cases_eq v q.other))
       (cases_eq v b)
     where
       b : ℕ
@@ -345,7 +347,7 @@ module _ (p : Program) (pairs : List (Option Pair)) (rows : List (List ℤ)) (ar
   whole_first e h = ext_get_or (pos 0) (whole_row (start_of p pairs rows) (first_basic (length p.costs) e)) (first_row p e)
       (wide ∙ ap (λ (k : ℕ). k + 1) count ∙ sym (length-map-range_with_len (first_entry p e) 0 (variable_count p + 1)))
       (λ v l. let low : v < variable_count p + 1 = omega (arith, l, wide, count) in
-        cell_at (start_of p pairs rows) (first_basic (length p.costs) e) v (omega (arith, low, count)) ∙ same v low ∙ sym (first_cell p e v low))
+      cell_at (start_of p pairs rows) (first_basic (length p.costs) e) v (omega (arith, low, count)) ∙ same v low ∙ sym (first_cell p e v low))
     where
       wide : length (whole_row (start_of p pairs rows) (first_basic (length p.costs) e)) ≡ variables_of (start_of p pairs rows) + 1
       wide = width_at (start_of p pairs rows) (first_basic (length p.costs) e)
@@ -360,8 +362,8 @@ module _ (p : Program) (pairs : List (Option Pair)) (rows : List (List ℤ)) (ar
   pub start_is_first : table_of (start_of p pairs rows) ≡ first_form p
   start_is_first = make_same (variables_of (start_of p pairs rows)) (variable_count p) (table_of (start_of p pairs rows)).rows (first_form p).rows (first_form p).basis (first_form p).basis count
       (ext_get_or [] (table_of (start_of p pairs rows)).rows (first_form p).rows (tall ∙ equations ∙ sym (height_is p))
-        (λ k l. let low : k < length (first_form p).basis = omega (arith, l, tall) in
-          row_at (start_of p pairs rows) k low ∙ ap (whole_row (start_of p pairs rows)) (basis_at k low) ∙ whole_first k (omega (arith, low, equations)) ∙ sym (first_row_at p k (omega (arith, low, equations)))))
+      (λ k l. let low : k < length (first_form p).basis = omega (arith, l, tall) in
+      row_at (start_of p pairs rows) k low ∙ ap (whole_row (start_of p pairs rows)) (basis_at k low) ∙ whole_first k (omega (arith, low, equations)) ∙ sym (first_row_at p k (omega (arith, low, equations)))))
       refl
     where
       tall : length (table_of (start_of p pairs rows)).rows ≡ length (first_form p).basis
@@ -380,3 +382,19 @@ module _ (p : Program) (pairs : List (Option Pair)) (rows : List (List ℤ)) (ar
     store = start_store;
     form = subst IsForm (sym start_is_first) (first_is_form p);
   }
+
+-- ---- as code puts it together
+abbrev store : ℕ → List ℕ → List Place → List (Option Pair) → List (List ℤ) → Store
+store width basis places pairs rows = record { width = width; basis = basis; places = places; pairs = pairs; rows = rows }
+
+pub made_start : (p : Program) (width height : ℕ) (basis : List ℕ) (places : List Place) (pairs lent : List (Option Pair)) (rows : List (List ℤ)) → width ≡ length p.costs → height ≡ length p.rows → lent ≡ pairs
+    → ArePairs (length p.costs) p.rows (length p.rows) pairs → basis ≡ map (first_basic width) (range_with_len 0 (height + 1)) → places ≡ map (first_place width lent) (range_with_len 0 (length lent))
+    → store width basis places pairs rows ≡ start_of p pairs rows
+made_start p width height basis places pairs lent rows e f g are basis_is places_are =
+    ap (λ (x : ℕ). store x basis places pairs rows) e
+    ∙ ap (λ (x : List ℕ). store (length p.costs) x places pairs rows) (basis_is ∙ ap (λ (x : ℕ). map (first_basic x) (range_with_len 0 (height + 1))) e ∙ ap (λ (x : ℕ). map (first_basic (length p.costs)) (range_with_len 0 (x + 1))) f)
+    ∙ ap (λ (x : List Place). store (length p.costs) (first_form p).basis x pairs rows)
+    (places_are
+    ∙ ap (λ (x : ℕ). map (first_place x lent) (range_with_len 0 (length lent))) e
+    ∙ ap (λ (x : List (Option Pair)). map (first_place (length p.costs) x) (range_with_len 0 (length x))) g
+    ∙ ap (λ (x : ℕ). map (first_place (length p.costs) pairs) (range_with_len 0 x)) are.width)

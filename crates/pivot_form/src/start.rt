@@ -39,11 +39,7 @@ pub(crate) fn first_short(alloc: Global, program: &Program) -> Result<Short, Mem
 
 /// Where each variable stands: the cost in the first slot, the program's variables in their columns, and each slack that is
 /// no pair's in a slot of its own.
-fn places_of(
-    alloc: Global,
-    variables: usize,
-    pairs: &[Option<Pair>],
-) -> Result<Vec<Place>, Memory>
+fn places_of(alloc: Global, variables: usize, pairs: &[Option<Pair>]) -> Result<Vec<Place>, Memory>
     requires wide { variables < length pairs.now }
     requires cost { slice_index_or pairs.now 0 None ≡ None }
     ensures { IfOk result (λ places.
@@ -55,8 +51,8 @@ fn places_of(
         places.push(Place::Column(column))?;
     }
     let mut slot = 1;
-    for slack in 1 + variables..pairs.len() {
-        if pairs[slack].is_none() {
+    for pair in &pairs[1 + variables..] {
+        if pair.is_none() {
             places.push(Place::Kept(slot))?;
             slot += 1;
         } else {

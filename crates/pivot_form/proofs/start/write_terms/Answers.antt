@@ -1,4 +1,4 @@
-use Rattle.std.proofs.Common.{arith, rules, ◌≡◌, ◌<◌, ◌∙◌, get_or, length, ℕ}
+use Rattle.std.proofs.Common.{arith, rules, ◌≡◌, ◌<◌, ◌∙◌, get_or, length}
 use Rattle.std.specs.Prelude.{pos}
 use lib.IntN.{neg_ℤ}
 use Rattle.std.proofs.lemmas.Int.{to_z-of_z}
