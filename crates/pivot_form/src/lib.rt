@@ -8,7 +8,6 @@
 
 mod clearing;
 mod exchanges;
-mod first;
 mod form;
 mod narrow;
 mod pairs;

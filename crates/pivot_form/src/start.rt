@@ -3,19 +3,18 @@ ghost use Rattle.std.specs.Prelude.{◌≡◌, ◌≢◌, ◌<◌, ◌≤◌, �
 ghost use lib.IntN.{neg_ℤ};
 ghost use Rattle.std.specs.List.{All, AllPairs, range_with_len};
 ghost use Rattle.row_program.specs.Bounds.{IsRow};
-ghost use Rattle.row_program.specs.Forms.{coefficient, first_form};
+ghost use Rattle.row_program.specs.Forms.{coefficient, first_basic, first_form};
 ghost use Rattle.pivot_form.specs.Invariant.{row_lists};
 ghost use Rattle.pivot_form.specs.Kept.{table_of};
 ghost use Rattle.pivot_form.specs.Shorts.{IsShort, store_of};
 ghost use Rattle.pivot_form.specs.Starts.{AreFirstRows, ArePairs, first_place};
 
-use crate::first::first_basics;
 use crate::pairs::pairs_of;
 use crate::places::{Pair, Place};
 use crate::rows::opposite;
 use crate::short::Short;
 use mov_base::Memory;
-use row_program::{MOST_VARIABLES, Program, Row, TERM_LIMIT, Term};
+use row_program::{MOST_ROWS, MOST_VARIABLES, Program, Row, TERM_LIMIT, Term};
 use std::alloc::Global;
 
 /// What is kept of the first form of a program. It takes the memory for all later forms.
@@ -35,6 +34,24 @@ pub(crate) fn first_short(alloc: Global, program: &Program) -> Result<Short, Mem
         pairs,
         rows,
     })
+}
+
+/// The basic variables of the first form: the cost, and the slacks in order.
+fn first_basics(
+    alloc: Global,
+    variables: usize,
+    rows: usize,
+) -> Result<Vec<usize>, Memory>
+    requires few_variables { variables ≤ MOST_VARIABLES }
+    requires few_rows { rows ≤ MOST_ROWS }
+    ensures { IfOk result (λ basics. basics.items ≡ map (first_basic variables) (range_with_len 0 (rows + 1))) }
+{
+    let mut basics = Vec::with_capacity(alloc, rows + 1)?;
+    basics.push(0)?;
+    for i in 0..rows {
+        basics.push(1 + variables + i)?;
+    }
+    Ok(basics)
 }
 
 /// Where each variable stands: the cost in the first slot, the program's variables in their columns, and each slack that is

@@ -3,7 +3,7 @@ use Rattle.std.specs.List.{range_with_len}
 use Rattle.std.proofs.lemmas.List.FromFn.{map-range_with_len_more}
 use Rattle.row_program.specs.Forms.{first_basic}
 use Rattle.pivot_form.proofs.FirstForm.{basic_more}
-use Rattle.pivot_form.proofs.first.first_basics.Goals as goal
+use Rattle.pivot_form.proofs.start.first_basics.Goals as goal
 
 pub loop-i-preserved : goal.loop-i-preserved
 loop-i-preserved c =
