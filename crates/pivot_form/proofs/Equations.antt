@@ -260,9 +260,6 @@ first_large_past x row h = grind (arith, nat_tests)
 clash : {P : Type 0} {n : ℕ} → Some n ≡ None → P
 clash e = cc
 
-some_is : {m n : ℕ} → Some m ≡ Some n → m ≡ n
-some_is e = cc
-
 -- all entries are small where none is large
 pub small_from_none : (row : List ℤ) → first_large row ≡ None → All (λ x. unsigned_abs x < 2 ^ 63) row
 small_from_none [] e = λ k d l. absurd (omega (arith, l))
@@ -272,16 +269,9 @@ pub none_from_small : (row : List ℤ) → All (λ x. unsigned_abs x < 2 ^ 63) r
 none_from_small [] a = refl
 none_from_small (x ∷ row) a = first_large_past x row (a zero (pos 0) (omega arith)) ∙ none_from_small row (λ k d h. a (suc k) d (omega (arith, h)))
 
-pub large_from_some : (row : List ℤ) (n : ℕ) → first_large row ≡ Some n → 2 ^ 63 ≤ n
-large_from_some [] n e = clash (sym e)
-large_from_some (x ∷ row) n e = ⊎_elim (λ low. large_from_some row n (sym (first_large_past x row low) ∙ e)) (λ high. let m : unsigned_abs x ≡ n = some_is (sym (first_large_here x row high) ∙ e) in omega (arith, m, high)) (cases_lt (unsigned_abs x) (2 ^ 63))
-
 -- the first of rows that are small is none
 pub rows_past : (row : List ℤ) (rows : List (List ℤ)) → first_large row ≡ None → first_large_of (row ∷ rows) ≡ first_large_of rows
 rows_past row rows e = ap (λ (o : Option ℕ). option_or o (first_large_of rows)) e
-
-pub rows_here : (row : List ℤ) (rows : List (List ℤ)) (n : ℕ) → first_large row ≡ Some n → first_large_of (row ∷ rows) ≡ Some n
-rows_here row rows n e = ap (λ (o : Option ℕ). option_or o (first_large_of rows)) e
 
 none_left : (a b : Option ℕ) → option_or a b ≡ None → (a ≡ None) × (b ≡ None)
 none_left None b e = (refl, e)
@@ -309,19 +299,11 @@ pub same_combination : (p q : ℤ) (out row lead : List ℤ) → length row ≡ 
 same_combination p q out row lead h i e = ext_get_or (pos 0) out (combination p row q lead) (omega (arith, h, i, length-combination p q row lead (omega (arith, h, i)))) (λ k l. e k l ∙ sym (get_or-combination p q row lead k (pos 0) (omega (arith, h, i)) (omega (arith, h, l))))
 
 -- ---- turned rows, as code makes them
-pub small_turned : (column : ℕ) (row : List ℤ) (s : ℤ) → IsTurned column row s → All (λ x. unsigned_abs x < 2 ^ 63) row → All (λ x. unsigned_abs x < 2 ^ 63) (turned column row)
-small_turned column row s is small = all_at (λ x. unsigned_abs x < 2 ^ 63) (turned column row) (λ k l. subst (λ (n : ℕ). n < 2 ^ 63) (sym (is.sizes k)) (small k (pos 0) (omega (arith, l, is.width))))
-
 -- ---- f of the first n items, with their numbers
 abbrev pub map_front_from : {X : Type 0} → (ℕ → X → X) → ℕ → ℕ → List X → List X
 map_front_from f zero i xs = xs
 map_front_from f (suc n) i [] = []
 map_front_from f (suc n) i (x ∷ xs) = f i x ∷ map_front_from f n (suc i) xs
-
-pub length-map_front_from : {X : Type 0} (f : ℕ → X → X) (n i : ℕ) (xs : List X) → length (map_front_from f n i xs) ≡ length xs
-length-map_front_from f zero i xs = refl
-length-map_front_from f (suc n) i [] = refl
-length-map_front_from f (suc n) i (x ∷ xs) = ap suc (length-map_front_from f n (suc i) xs)
 
 pub get_or-map_front_from : {X : Type 0} (f : ℕ → X → X) (n i : ℕ) (xs : List X) (d : X) → get_or (map_front_from f n i xs) n d ≡ get_or xs n d
 get_or-map_front_from f zero i xs d = refl

@@ -14,7 +14,7 @@ use Rattle.exact_num.proofs.Ring.{leaf, times, same}
 use Rattle.row_program.specs.Forms.{Table, row_of, entry, basic_of, tableau, combination, eliminated, turned, next_row, map_from, next_form, first_large, first_large_of, Holds, IsSolved, IsReduced}
 use Rattle.pivot_form.specs.Invariant.{IsEquation, IsForm, row_lists}
 use Rattle.pivot_form.proofs.Sums.{positive_product, zero_times}
-use Rattle.pivot_form.proofs.Equations.{length-combination, get_or-combination, turned_by, IsTurned, length-map_from, get_or-map_from, small_rows_from_none, all_at, row_lists-get, row_lists-set, length-row_lists, map_front_from, get_or-map_front_from, map_front_from_more, map_from_drop, rows_past, rows_here}
+use Rattle.pivot_form.proofs.Equations.{length-combination, get_or-combination, turned_by, IsTurned, length-map_from, get_or-map_from, small_rows_from_none, all_at, row_lists-get, row_lists-set, length-row_lists, map_front_from, get_or-map_front_from, map_front_from_more, map_from_drop, rows_past}
 use Rattle.pivot_form.proofs.Pivots.{IsPivot, next_holds, before_holds, next_solved}
 
 -- the pivot's equation, turned
@@ -150,14 +150,6 @@ make variables rows basis = record { variables = variables; rows = rows; basis =
 pub make_same : (a b : ℕ) (r s : List (List ℤ)) (x y : List ℕ) → a ≡ b → r ≡ s → x ≡ y → make a r x ≡ make b s y
 make_same a b r s x y e f g = ap (λ (n : ℕ). make n r x) e ∙ ap (λ (q : List (List ℤ)). make b q x) f ∙ ap (λ (z : List ℕ). make b s z) g
 
--- a row of a form has an entry a variable and the right side
-pub vector_width : {A : Type 0} (n : ℕ) (rows : List (Vec ℤ A)) (i : ℕ) (v : Vec ℤ A) → All (IsEquation n) (row_lists rows) → i < length rows → v ≡ get_or rows i v → v.len ≡ n + 1
-vector_width n rows i v all h is =
-    let e : IsEquation n (get_or (row_lists rows) i []) = all i [] (omega (arith, h, length-row_lists rows)) in
-    let there : get_or (row_lists rows) i [] ≡ v.items = row_lists-get rows i v h ∙ sym (ap (λ (w : Vec ℤ _). w.items) is) in
-    let wide : length v.items ≡ n + 1 = sym (ap length there) ∙ e.width in
-    v.ok.0 ∙ wide
-
 -- a row as a loop over vectors finds it
 pub current_row : {A : Type 0} (f : ℕ → List ℤ → List ℤ) (rows init : List (Vec ℤ A)) (i : ℕ) (d : Vec ℤ A) → row_lists rows ≡ map_front_from f i 0 (row_lists init) → i < length rows → (get_or rows i d).items ≡ get_or (row_lists init) i []
 current_row f rows init i d e h = sym (row_lists-get rows i d h) ∙ ap (λ (xs : List (List ℤ)). get_or xs i []) e ∙ get_or-map_front_from f i 0 (row_lists init) []
@@ -176,14 +168,3 @@ written_row f rows init i d new e h same_length wide is =
 -- the next row is small, so the first large entry is further on
 pub large_past : (f : ℕ → List ℤ → List ℤ) (rows : List (List ℤ)) (i : ℕ) → i < length rows → first_large (f i (get_or rows i [])) ≡ None → first_large_of (map_from f (i + 1) (drop (i + 1) rows)) ≡ first_large_of (map_from f i (drop i rows))
 large_past f rows i h none = sym (ap first_large_of (map_from_drop f i i rows [] h) ∙ rows_past (f i (get_or rows i [])) (map_from f (i + 1) (drop (i + 1) rows)) none)
-
--- the next row has the first large entry
-pub large_here : (f : ℕ → List ℤ → List ℤ) (rows : List (List ℤ)) (i n : ℕ) → i < length rows → first_large (f i (get_or rows i [])) ≡ Some n → first_large_of (map_from f i (drop i rows)) ≡ Some n
-large_here f rows i n h some = ap first_large_of (map_from_drop f i i rows [] h) ∙ rows_here (f i (get_or rows i [])) (map_from f (i + 1) (drop (i + 1) rows)) n some
-
--- the rows that a pivot makes of its vectors are those of the next form
-pub next_rows_of : {A : Type 0} (rows old : List (Vec ℤ A)) (v : Vec ℤ A) (r c : ℕ) (lead kept source : List ℤ) → r < length rows → v ≡ get_or rows r v → source ≡ v.items → kept ≡ turned c source → lead ≡ kept → old ≡ rows
-    → map_from (next_row r c lead) 0 (row_lists old) ≡ map_from (next_row r c (turned c (get_or (row_lists rows) r []))) 0 (row_lists rows)
-next_rows_of rows old v r c lead kept source h is from_v turned_is lead_is old_is =
-    ap (λ (q : List (Vec ℤ _)). map_from (next_row r c lead) 0 (row_lists q)) old_is
-    ∙ ap (λ (l : List ℤ). map_from (next_row r c l) 0 (row_lists rows)) (lead_is ∙ turned_is ∙ ap (turned c) (from_v ∙ ap (λ (w : Vec ℤ _). w.items) is ∙ sym (row_lists-get rows r v h)))

@@ -1,4 +1,4 @@
-use Rattle.std.proofs.Common.{arith, rules, ap, sym, ◌∙◌, subst, ◌≡◌, ◌<◌, ◌+◌, ℕ, length, get_or, set, List, [], None, Option, refl}
+use Rattle.std.proofs.Common.{arith, ap, sym, ◌∙◌, subst, ◌≡◌, ◌<◌, ℕ, length, get_or, set, List, [], Option, refl}
 use Rattle.std.specs.Prelude.{ℤ, pos, unsigned_abs}
 use Rattle.std.specs.Vec.{with_items}
 use Rattle.std.proofs.lemmas.List.{get_or_read, with_items_is}
@@ -7,11 +7,10 @@ use mir.Syntax.{w64}
 use mir.Val.{to_z, of_z}
 use Rattle.exact_num.specs.declared.limits.TheConstants.{WIDE}
 use Rattle.row_program.specs.Forms.{first_large, map_from}
-use Rattle.pivot_form.specs.declared.places.Pair.{Pair}
 use Rattle.pivot_form.specs.declared.places.Place.{Place}
 use Rattle.pivot_form.specs.declared.places.Place.TheVariants.{Column, Paired}
 use Rattle.pivot_form.specs.Invariant.{row_lists}
-use Rattle.pivot_form.specs.Kept.{Store, exchanged, moved, next_by, next_short}
+use Rattle.pivot_form.specs.Kept.{Store, exchanged, next_short}
 use Rattle.pivot_form.specs.Shorts.{store_of}
 use Rattle.pivot_form.proofs.Equations.{get_or-map_from, length-row_lists}
 use Rattle.pivot_form.proofs.exchanges.exchange.Goals as goal

@@ -1,10 +1,10 @@
-use Rattle.std.proofs.Common.{arith, ap, sym, ◌∙◌, subst, ◌≡◌, ◌<◌, ℕ, length, get_or, List, [], Some, None}
+use Rattle.std.proofs.Common.{arith, ap, sym, ◌∙◌, subst, ◌≡◌, ◌<◌, ℕ, length, get_or, List, [], Some}
 use Rattle.std.specs.Prelude.{ℤ, pos, unsigned_abs, Vec}
 use Rattle.std.specs.List.{All}
 use Rattle.exact_num.specs.declared.limits.TheConstants.{WIDE}
-use Rattle.row_program.specs.Forms.{first_large, turned}
+use Rattle.row_program.specs.Forms.{turned}
 use Rattle.pivot_form.specs.Invariant.{row_lists}
-use Rattle.pivot_form.specs.Kept.{Store, exchanged, short_row, table_of}
+use Rattle.pivot_form.specs.Kept.{exchanged, short_row, table_of}
 use Rattle.pivot_form.specs.Shorts.{IsShort, store_of}
 use Rattle.pivot_form.proofs.Equations.{length-row_lists, row_lists-get}
 use Rattle.pivot_form.proofs.Steps.{exchanged_narrow, kept_nonzero, kept_slot, kept_step, row_equation, row_small}
