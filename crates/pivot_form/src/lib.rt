@@ -10,6 +10,7 @@ mod clearing;
 mod exchanges;
 mod first;
 mod form;
+mod narrow;
 mod places;
 mod rows;
 mod short;
