@@ -1,63 +1,78 @@
--- Ballots and replacements side by side.
-use Rattle.std.proofs.Common.{ℕ, zero, suc, List, [], ◌∷◌, ◌++◌, ◌≡◌, ◌<◌, ◌≤◌, ◌+◌, ◌==◌, ◌∙◌, true, false, sym, ap, inl, inr, length, drop, get_or, append_assoc, append-nil, refl, arith}
-use Rattle.std.specs.Prelude.{Some, slice_get}
-use Rattle.std.proofs.lemmas.Option.{get_or_from_slice_get, slice_get_within}
-use Rattle.std.proofs.lemmas.Bool.{cases_lt}
+-- Runs of ballots and replacements side by side.
+use Rattle.std.proofs.Common.{ℕ, zero, suc, List, [], ◌∷◌, ◌++◌, ◌≡◌, ◌<◌, ◌≤◌, ◌+◌, ◌-◌, ◌==◌, ◌∙◌, true, false, sym, ap, replicate, append_assoc, refl, arith}
+use Rattle.std.specs.Prelude.{IfSome, slice_get}
+use Rattle.std.proofs.lemmas.List.{replicate-append-replicate}
 use Rattle.std.proofs.lemmas.Bool.Decides.{nat_tests}
-use Rattle.std.proofs.lemmas.List.{drop_all, drop_more}
-use Rattle.ballot_form.specs.Alterations.{IsAlteration, IsAlterationFrom, after_from}
-use Rattle.ballot_form.specs.Ballots.{IsValidBallot, Poll}
-use Rattle.alteration_model.specs.Picks.{Picks}
+use Rattle.ballot_form.specs.Alterations.{IsAlterationFrom, after_from}
 
-after_none : (i : ℕ) (rows : List (List ℕ)) → after_from i rows [] ≡ rows
-after_none i [] = refl
-after_none i (row ∷ rows) = refl
+-- the numbers may end later
+pub ends_later : (c i n m : ℕ) (changes : List (ℕ × List ℕ)) → n ≤ m → IsAlterationFrom c i n changes → IsAlterationFrom c i m changes
+ends_later c i n m [] le is = tt
+ends_later c i n m (change ∷ changes) le is = (is.0, omega (arith, le, is.1), is.2, ends_later c (change.0 + 1) n m changes le is.3)
 
--- one more ballot
-after_step : (i : ℕ) (row : List ℕ) (rows : List (List ℕ)) (changes : List (ℕ × List ℕ)) (next : ℕ) (chosen : List ℕ) (later : ℕ) → Picks changes next i row chosen later
-    → after_from i (row ∷ rows) (drop next changes) ≡ chosen ∷ after_from (i + 1) rows (drop later changes)
-after_step i row rows changes next chosen later (inl t) =
-    let d = drop_more changes next (0, []) t.0 in
-    let e : ((get_or changes next (0, [])).0 == i) ≡ true = grind (arith, nat_tests) in
-    rw (d, e, t.2, t.3) refl
-after_step i row rows changes next chosen later (inr k) = elim (cases_lt next (length changes)) [
-  | inl lt ↦
-      let d = drop_more changes next (0, []) lt in
-      let ne = k.0 lt in
-      let e : ((get_or changes next (0, [])).0 == i) ≡ false = grind (arith, nat_tests) in
-      rw (k.1, k.2, d, e) refl
-  | inr ge ↦ rw (k.1, k.2, drop_all next changes ge) (ap (λ rest. row ∷ rest) (sym (after_none (i + 1) rows)))
-]
+-- the numbers may begin earlier
+begins_earlier : (c i j n : ℕ) (changes : List (ℕ × List ℕ)) → j ≤ i → IsAlterationFrom c i n changes → IsAlterationFrom c j n changes
+begins_earlier c i j n [] le is = tt
+begins_earlier c i j n (change ∷ changes) le is = (omega (arith, le, is.0), is.1, is.2, is.3)
 
-pub picked_within : (changes : List (ℕ × List ℕ)) (next number : ℕ) (row chosen : List ℕ) (later : ℕ) → next ≤ length changes → Picks changes next number row chosen later → later ≤ length changes
-picked_within changes next number row chosen later le step = elim step [ inl t ↦ omega (arith, t.0, t.3) | inr k ↦ omega (arith, k.2) ]
+-- a ballot that no change names, and one that the first change names
+one_kept : (c i n : ℕ) (row : List ℕ) (rows : List (List ℕ)) (changes : List (ℕ × List ℕ)) → IsAlterationFrom c (i + 1) n changes
+    → after_from i (row ∷ rows) changes ≡ row ∷ after_from (i + 1) rows changes
+one_kept c i n row [] [] is = refl
+one_kept c i n row (next ∷ rows) [] is = refl
+one_kept c i n row rows (change ∷ changes) is =
+    let other : (change.0 == i) ≡ false = (let after = is.0 in grind (arith, nat_tests)) in
+    rw other refl
 
--- the loop's step
-pub merged : (out rows : List (List ℕ)) (changes : List (ℕ × List ℕ)) (i next : ℕ) (row chosen : List ℕ) (later : ℕ) (whole : List (List ℕ)) → slice_get rows i ≡ Some row
-    → Picks changes next (i + 1) row chosen later
-    → out ++ after_from (i + 1) (drop i rows) (drop next changes) ≡ whole
-    → (out ++ (chosen ∷ [])) ++ after_from (i + 1 + 1) (drop (i + 1) rows) (drop later changes) ≡ whole
-merged out rows changes i next row chosen later whole at step so_far =
-    let split : drop i rows ≡ row ∷ drop (i + 1) rows = drop_more rows i row (slice_get_within rows i row at) ∙ ap (λ x. x ∷ drop (i + 1) rows) (get_or_from_slice_get rows i row row at) in
-    let s = after_step (i + 1) row (drop (i + 1) rows) changes next chosen later step in
-    append_assoc out (chosen ∷ []) (after_from (i + 1 + 1) (drop (i + 1) rows) (drop later changes))
-    ∙ ap (λ l. out ++ l) (sym s) ∙ ap (λ l. out ++ after_from (i + 1) l (drop next changes)) (sym split) ∙ so_far
+one_replaced : (i : ℕ) (row : List ℕ) (rows : List (List ℕ)) (change : ℕ × List ℕ) (changes : List (ℕ × List ℕ)) → change.0 ≡ i
+    → after_from i (row ∷ rows) (change ∷ changes) ≡ change.1 ∷ after_from (i + 1) rows changes
+one_replaced i row rows change changes is =
+    let here : (change.0 == i) ≡ true = grind (arith, nat_tests) in
+    rw here refl
 
-pub merged_end : (out rows : List (List ℕ)) (changes : List (ℕ × List ℕ)) (i next : ℕ) (whole : List (List ℕ)) → length rows ≤ i
-    → out ++ after_from (i + 1) (drop i rows) (drop next changes) ≡ whole → out ≡ whole
-merged_end out rows changes i next whole past so_far = let none = drop_all i rows past in sym (append-nil out) ∙ (rw none at so_far)
+-- ballots that no change names
+equal_kept : (c i j k n : ℕ) (row : List ℕ) (rows : List (List ℕ)) (changes : List (ℕ × List ℕ)) → j ≡ i + k → IsAlterationFrom c j n changes
+    → after_from i (replicate k row ++ rows) changes ≡ replicate k row ++ after_from j rows changes
+equal_kept c i j zero n row rows changes e is = ap (λ m. after_from m rows changes) (omega (arith, e))
+equal_kept c i j (suc k) n row rows changes e is =
+    one_kept c i n row (replicate k row ++ rows) changes (begins_earlier c j (i + 1) n changes (omega (arith, e)) is)
+    ∙ ap (λ l. row ∷ l) (equal_kept c (i + 1) j k n row rows changes (omega (arith, e)) is)
 
-valid_at : (c i n : ℕ) (changes : List (ℕ × List ℕ)) (k : ℕ) (d : ℕ × List ℕ) → k < length changes → IsAlterationFrom c i n changes → IsValidBallot c (get_or changes k d).1
-valid_at c i n [] k d lt is = absurd (omega arith)
-valid_at c i n (change ∷ changes) zero d lt is = is.2
-valid_at c i n (change ∷ changes) (suc k) d lt is = valid_at c (change.0 + 1) n changes k d (omega arith) is.3
+-- a stretch of equal ballots, and the one behind it that the first change names
+equal_then_replaced : (c i k l m n : ℕ) (row : List ℕ) (rows : List (List ℕ)) (change : ℕ × List ℕ) (changes : List (ℕ × List ℕ)) → change.0 ≡ i + k → m ≡ k + 1 + l
+    → IsAlterationFrom c i n (change ∷ changes)
+    → after_from i (replicate m row ++ rows) (change ∷ changes) ≡ (replicate k row ++ change.1 ∷ []) ++ after_from (change.0 + 1) (replicate l row ++ rows) changes
+equal_then_replaced c i k l m n row rows change changes at all is =
+    let split : replicate m row ≡ replicate k row ++ (row ∷ replicate l row) =
+    ap (λ q. replicate q row) (omega (arith, all)) ∙ sym (replicate-append-replicate k (suc l) row) in
+    let tail = row ∷ replicate l row ++ rows in
+    ap (λ q. after_from i (q ++ rows) (change ∷ changes)) split
+    ∙ ap (λ q. after_from i q (change ∷ changes)) (append_assoc (replicate k row) (row ∷ replicate l row) rows)
+    ∙ equal_kept c i change.0 k n row tail (change ∷ changes) at (omega arith, is.1, is.2, is.3)
+    ∙ ap (λ q. replicate k row ++ q) (one_replaced change.0 row (replicate l row ++ rows) change changes refl)
+    ∙ sym (append_assoc (replicate k row) (change.1 ∷ []) (after_from (change.0 + 1) (replicate l row ++ rows) changes))
 
--- the ballot that is picked is valid
-pub picked_valid : (p : Poll) (changes : List (ℕ × List ℕ)) (next number : ℕ) (row chosen : List ℕ) (later : ℕ) → IsAlteration p changes → IsValidBallot p.c row
-    → Picks changes next number row chosen later → IsValidBallot p.c chosen
-picked_valid p changes next number row chosen later is valid (inl t) = rw t.2 (valid_at p.c 1 (length p.ballots) changes next (0, []) t.0 is)
-picked_valid p changes next number row chosen later is valid (inr k) = rw k.1 valid
+-- a stretch and a replaced ballot more
+pub added_more : (out : List (List ℕ)) (row : List ℕ) (rows : List (List ℕ)) (change : ℕ × List ℕ) (left later : List (ℕ × List ℕ)) (c i n end : ℕ)
+    → left ≡ change ∷ later → change.0 < end → IsAlterationFrom c i n left
+    → ((out ++ replicate (change.0 - i) row) ++ change.1 ∷ []) ++ after_from (change.0 + 1) (replicate (end - (change.0 + 1)) row ++ rows) later
+    ≡ out ++ after_from i (replicate (end - i) row ++ rows) left
+added_more out row rows change left later c i n end split lt is =
+    let is_split : IsAlterationFrom c i n (change ∷ later) = rw split at is in
+    let stretch = replicate (change.0 - i) row in
+    let rest = after_from (change.0 + 1) (replicate (end - (change.0 + 1)) row ++ rows) later in
+    let here = equal_then_replaced c i (change.0 - i) (end - (change.0 + 1)) (end - i) n row rows change later (omega (arith, is_split.0)) (omega (arith, lt, is_split.0)) is_split in
+    ap (λ q. q ++ rest) (append_assoc out stretch (change.1 ∷ [])) ∙ append_assoc out (stretch ++ change.1 ∷ []) rest
+    ∙ ap (λ q. out ++ q) (sym here) ∙ ap (λ q. out ++ after_from i (replicate (end - i) row ++ rows) q) (sym split)
 
--- a list of ballots of so many candidates
-pub same_poll : (q p : Poll) (rows : List (List ℕ)) → q.c ≡ p.c → q.ballots ≡ rows → q ≡ record p { ballots = rows }
-same_poll q p rows a b = ap (λ c. record { c = c; ballots = q.ballots }) a ∙ ap (λ r. record { c = p.c; ballots = r }) b
+-- the last stretch
+pub added_end : (out : List (List ℕ)) (row : List ℕ) (rows : List (List ℕ)) (left : List (ℕ × List ℕ)) (c i n end : ℕ) → i ≤ end → IsAlterationFrom c end n left
+    → (out ++ replicate (end - i) row) ++ after_from end rows left ≡ out ++ after_from i (replicate (end - i) row ++ rows) left
+added_end out row rows left c i n end le is =
+    append_assoc out (replicate (end - i) row) (after_from end rows left)
+    ∙ ap (λ q. out ++ q) (sym (equal_kept c i end (end - i) n row rows left (omega arith) is))
+
+-- where the first number isn't before a number all begin at it
+pub begins_at : (c i j n : ℕ) (changes : List (ℕ × List ℕ)) → IfSome (slice_get changes 0) (λ change. j ≤ change.0) → IsAlterationFrom c i n changes → IsAlterationFrom c j n changes
+begins_at c i j n [] from is = tt
+begins_at c i j n (change ∷ changes) from is = (from, is.1, is.2, is.3)

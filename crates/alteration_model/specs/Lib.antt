@@ -1,2 +1,2 @@
+pub mod AddedRuns
 pub mod Faults
-pub mod Picks

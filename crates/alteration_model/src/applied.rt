@@ -1,11 +1,11 @@
 // The roll after an alteration.
-ghost use Rattle.std.specs.Prelude.{◌≡◌, ◌+◌, ◌<◌, ◌≤◌, ◌++◌, ◌∷◌, [], OnOk, OnErr, IfOk, length};
-ghost use Rattle.ballot_form.specs.Alterations.{IsAlteration, after};
+ghost use Rattle.std.specs.Prelude.{◌≡◌, ◌+◌, ◌<◌, ◌≤◌, ◌∷◌, ◌++◌, IfOk, IfSome, IsNone, OnOk, length, replicate, slice_get};
+ghost use Rattle.ballot_form.specs.Alterations.{IsAlteration, IsAlterationFrom, after};
 ghost use Rattle.ballot_form.specs.Ballots.{IsValidBallot};
-ghost use Rattle.alteration_model.specs.Picks.{Picks};
+ghost use Rattle.alteration_model.specs.AddedRuns.{AddsRun};
 
 use crate::Alteration;
-use ballot_form::{Cand, MOST_BALLOTS, PushFault, Ranking, Roll};
+use ballot_form::{Cand, MOST_BALLOTS, PushFault, Ranking, Roll, Run};
 use mov_base::Memory;
 use std::alloc::Global;
 
@@ -14,42 +14,62 @@ pub fn apply(alloc: Global, roll: &Roll, changes: &Alteration) -> Result<Roll, M
     requires { IsAlteration roll.now changes.now }
     ensures { IfOk result (λ altered. altered ≡ after roll.now changes.now) }
 {
-    let list = changes.as_slice();
     let mut altered = Roll::new(alloc, roll.candidates());
-    let mut next: usize = 0;
-    for i in 0..roll.len() {
-        let (row, then) = pick(list, next, i + 1, roll.row(i));
-        push_one(&mut altered, row)?;
-        next = then;
+    let mut left = changes.as_slice();
+    for run in roll.runs() {
+        left = push_run(&mut altered, &run, left)?;
     }
     Ok(altered)
 }
 
-/// The ballot at a number, and the place of the next replacement, where `next` is the place of the first that is left.
-fn pick<'a>(
+/// Adds the ballots of a run, with each one replaced that a change names. Gives the changes of ballots behind the run.
+fn push_run<'a>(
+    altered: &mut Roll,
+    run: &Run<'_>,
     changes: &'a [(u32, Ranking)],
-    next: usize,
-    number: u32,
-    row: &'a [Cand],
-) -> (&'a [Cand], usize)
-    requires { next ≤ length changes.now }
-    ensures { Picks changes.now next number row.now result.0.now result.1 }
+) -> Result<&'a [(u32, Ranking)], Memory>
+    requires valid { IsValidBallot altered.old.c run.now.row.now }
+    requires changes { IsAlterationFrom altered.old.c run.now.first MOST_BALLOTS changes.now }
+    requires place { length altered.old.ballots + 1 ≡ run.now.first }
+    requires few { run.now.first + run.now.count ≤ MOST_BALLOTS + 1 }
+    ensures { IfOk result (λ left. AddsRun altered.old run.now changes.now altered.new left.now) }
 {
-    if next < changes.len() && changes[next].0 == number {
-        (changes[next].1.as_slice(), next + 1)
+    let end = run.first + run.count;
+    let mut number = run.first;
+    let mut left = changes;
+    while let Some((change, later)) = first_before(left, end) {
+        push_equal(altered, run.row, change.0 - number)?;
+        push_equal(altered, change.1.as_slice(), 1)?;
+        number = change.0 + 1;
+        left = later;
+    }
+    push_equal(altered, run.row, end - number)?;
+    Ok(left)
+}
+
+/// The first change, where it is of a ballot before this number, and those after it.
+fn first_before(
+    changes: &[(u32, Ranking)],
+    end: u32,
+) -> Option<(&(u32, Ranking), &[(u32, Ranking)])>
+    ensures some { IfSome result (λ split. (changes.now ≡ split.0.now ∷ split.1.now) × (split.0.now.0 < end)) }
+    ensures none { IsNone result → IfSome (slice_get changes.now 0) (λ change. end ≤ change.0) }
+{
+    let (first, later) = changes.split_first()?;
+    if first.0 < end {
+        Some((first, later))
     } else {
-        (row, next)
+        None
     }
 }
 
-/// Adds one ballot to a roll that isn't full.
-fn push_one(roll: &mut Roll, row: &[Cand]) -> Result<(), Memory>
+/// Adds equal ballots to a roll that has room for them.
+fn push_equal(roll: &mut Roll, row: &[Cand], count: u32) -> Result<(), Memory>
     requires valid { IsValidBallot roll.old.c row.now }
-    requires room { length roll.old.ballots < MOST_BALLOTS }
-    ensures ok { OnOk result (roll.new ≡ record roll.old { ballots = roll.old.ballots ++ row.now ∷ [] }) }
-    ensures err { OnErr result (roll.new ≡ roll.old) }
+    requires room { length roll.old.ballots + count ≤ MOST_BALLOTS }
+    ensures { OnOk result (roll.new ≡ record roll.old { ballots = roll.old.ballots ++ replicate count row.now }) }
 {
-    match roll.push_times(row, 1) {
+    match roll.push_times(row, count) {
         Ok(()) => Ok(()),
         Err(PushFault::Memory) => Err(std::alloc::AllocError),
         Err(PushFault::TooMany) => unreachable!(),

@@ -1,10 +1,13 @@
 -- The plain form, as far as it is written.
-use Rattle.std.proofs.Common.{ℕ, List, [], ◌∷◌, ◌++◌, ◌≡◌, ◌∙◌, ◌+◌, ◌<◌, ◌≤◌, refl, sym, ap, codes, length, append_assoc, drop, get_or, map, take}
-use Rattle.std.specs.Prelude.{Err, IfOk, IfSome, Ok, Result, slice_get}
-use Rattle.std.proofs.lemmas.List.{append-nil, drop_all, map-append, take_more}
+use Rattle.std.proofs.Common.{ℕ, List, [], ◌∷◌, ◌++◌, ◌≡◌, ◌∙◌, ◌+◌, ◌<◌, refl, sym, ap, codes, length, append_assoc, get_or, map, take}
+use Rattle.std.specs.Prelude.{Err, IfOk, Ok, Result}
+use Rattle.std.proofs.lemmas.List.{append-nil, map-append, take_more}
 use Rattle.std.proofs.lemmas.Option.{slice_get-get_or}
 use Rattle.csv.specs.Writing.{row_text}
-use Rattle.ballot_csv.specs.PlainForm.{name_at, plain_writer, record_of, run_records, runs_of, text_of_records}
+use Rattle.ballot_form.specs.declared.runs.Run.{Run}
+use Rattle.ballot_form.specs.Runs.{IsFirstRun, Left}
+use Rattle.ballot_csv.specs.PlainForm.{name_at, plain_writer, record_of, run_records, text_of_records}
+use Rattle.ballot_csv.proofs.RunFacts.{runs_next}
 
 -- one name more
 pub names_more : (names : List (List ℕ)) (ballot : List ℕ) (i x : ℕ) (count part item name : List ℕ) (old new : List (List ℕ)) → i < length ballot → x ≡ get_or ballot i 0
@@ -18,27 +21,19 @@ names_more names ballot i x count part item name old new within here below there
     rw (added, before, none, joined) refl
 
 -- one run more
-pub runs_more : (names rows row : List (List ℕ)) (start n : ℕ) (before text all : List ℕ) → start < length rows
-    → IfSome (slice_get rows start) (λ ballot. runs_of (drop start rows) ≡ (n, ballot) ∷ runs_of (drop (start + n) rows))
-    → IfSome (slice_get rows start) (λ ballot. row ≡ record_of names (n, ballot))
-    → before ++ text_of_records (run_records names (drop start rows)) ≡ all → text ≡ before ++ row_text plain_writer row
-    → text ++ text_of_records (run_records names (drop (start + n) rows)) ≡ all
+pub runs_more : (names row : List (List ℕ)) (old : Left) (run : Run) (new : Left) (before text all : List ℕ) → IsFirstRun old run new → row ≡ record_of names (run.count, run.row.now)
+    → before ++ text_of_records (run_records names old.ballots) ≡ all → text ≡ before ++ row_text plain_writer row
+    → text ++ text_of_records (run_records names new.ballots) ≡ all
 unfolding text_of_records
-runs_more names rows row start n before text all within run is so_far more =
-    let at = slice_get-get_or rows start [] within in
-    let first = rw at at run in
-    let here = rw at at is in
-    let rest = text_of_records (run_records names (drop (start + n) rows)) in
-    let spread : text_of_records (run_records names (drop start rows)) ≡ row_text plain_writer row ++ rest = rw (first, here) refl in
+runs_more names row old run new before text all is here so_far more =
+    let rest = text_of_records (run_records names new.ballots) in
+    let spread : text_of_records (run_records names old.ballots) ≡ row_text plain_writer row ++ rest = rw (runs_next old run new is, here) refl in
     ap (λ t. t ++ rest) more ∙ append_assoc before (row_text plain_writer row) rest ∙ ap (λ t. before ++ t) (sym spread) ∙ so_far
 
 -- no run more
-pub runs_end : (names rows : List (List ℕ)) (start : ℕ) (text all : List ℕ) → length rows ≤ start
-    → text ++ text_of_records (run_records names (drop start rows)) ≡ all → text ≡ all
+pub runs_end : (names rows : List (List ℕ)) (text all : List ℕ) → rows ≡ [] → text ++ text_of_records (run_records names rows) ≡ all → text ≡ all
 unfolding text_of_records
-runs_end names rows start text all past so_far =
-    let none = drop_all start rows past in
-    sym (append-nil text) ∙ rw none at so_far
+runs_end names rows text all none so_far = sym (append-nil text) ∙ rw none at so_far
 
 -- the head and the runs are all
 pub form_made : (names rows head : List (List ℕ)) (start one all : List ℕ) → head ≡ codes "ballots" ∷ names → start ≡ []

@@ -1,18 +1,17 @@
 -- The names of a head without a fault are distinct, and each is one that a contest admits.
-use Rattle.std.proofs.Common.{ℕ, List, [], ◌∷◌, ◌++◌, ◌≡◌, ◌<◌, refl, sym, true, false, Option, Some, None, All, length, suc, zero, arith, inl, inr, get_or, append_assoc, subst, drop}
+use Rattle.std.proofs.Common.{ℕ, List, [], ◌∷◌, ◌++◌, ◌≡◌, refl, sym, true, false, Option, Some, None, All, length, suc, zero, arith, inl, inr, append_assoc, subst, drop}
 use Rattle.std.specs.Prelude.{AllPairs, ◌≢◌, ◌==◌, codes, nat_lt}
 use Rattle.std.specs.List.{list_any}
 use Rattle.std.specs.Str.{bytes_eq}
 use Rattle.std.proofs.lemmas.Bool.{cases_Bool}
 use Rattle.std.proofs.lemmas.List.{append-nil}
 use Rattle.std.proofs.lemmas.List.Elements.{All-nil}
-use Rattle.std.proofs.lemmas.List.Folds.{list_any_at}
 use Rattle.std.proofs.lemmas.List.Quantifiers.{all_pairs_push}
-use Rattle.std.proofs.lemmas.Slice.Eq.{bytes_eq-Decides}
 use Rattle.ballot_form.specs.Names.{is_name}
 use Rattle.ballot_form.specs.declared.limits.TheConstants.{MOST_CANDIDATES}
 use Rattle.ballot_csv.specs.HeadRecord.{filled_fault, head_fault, name_fault, names_fault, names_of, or_later, without_empty_end}
 use Rattle.ballot_csv.specs.declared.fault.BallotKind.{BallotKind}
+use Rattle.ballot_csv.proofs.NameFacts.{unequal}
 
 -- no two names are the same
 abbrev AreApart : List (List ℕ) → Type 0
@@ -21,11 +20,6 @@ AreApart names = AllPairs (λ x y. x ≢ y) names
 -- each name is admitted
 abbrev AreAdmitted : List (List ℕ) → Type 0
 AreAdmitted names = All (λ name. is_name name ≡ true) names
-
-unequal : (before : List (List ℕ)) (cell : List ℕ) → list_any (bytes_eq cell) before ≡ false → (k : ℕ) (d : List ℕ) → k < length before → get_or before k d ≢ cell
-unequal before cell none k d within same =
-    let found = list_any_at (bytes_eq cell) before k d within ((bytes_eq-Decides cell (get_or before k d)).1 (sym same)) in
-    cc (none, found)
 
 -- a name without a fault is admitted, and unlike those before it
 one_good : (before : List (List ℕ)) (cell : List ℕ) → name_fault before cell ≡ None → (is_name cell ≡ true) × (list_any (bytes_eq cell) before ≡ false)

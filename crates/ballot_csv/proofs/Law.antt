@@ -1,7 +1,7 @@
 -- The plain form of a contest is read as that contest.
-use Rattle.std.proofs.Common.{ℕ, List, [], ◌∷◌, ◌++◌, ◌≡◌, ◌∙◌, ◌+◌, ◌<◌, ◌≤◌, refl, sym, ap, subst, Bool, false, true, All, Some, None, length, zero, suc, arith, inl, inr, map, replicate, append_assoc, length-append, get_or}
-use Rattle.std.specs.Prelude.{◌==◌, ◌≢◌, ⊤, AllPairs, Ok, codes, nat_lt, not, position}
-use Rattle.std.specs.List.{list_any, prefix_len}
+use Rattle.std.proofs.Common.{ℕ, List, [], ◌∷◌, ◌++◌, ◌≡◌, ◌∙◌, ◌+◌, ◌<◌, ◌≤◌, refl, sym, ap, subst, false, true, All, None, length, arith, inl, inr, map, replicate, append_assoc, length-append, get_or}
+use Rattle.std.specs.Prelude.{◌==◌, ◌≢◌, ⊤, AllPairs, Ok, codes, nat_lt}
+use Rattle.std.specs.List.{list_any}
 use Rattle.std.specs.Str.{bytes_eq}
 use Rattle.std.proofs.Math.Seq.{get_or-append_seam}
 use Rattle.std.proofs.lemmas.Bool.{cases_Bool}
@@ -10,7 +10,6 @@ use Rattle.std.proofs.lemmas.List.{get_or_append_left, length-replicate}
 use Rattle.std.proofs.lemmas.List.Elements.{All-cons, All-nil}
 use Rattle.std.proofs.lemmas.List.Folds.{list_any_none}
 use Rattle.std.proofs.lemmas.Option.{unwrap_or-slice_get}
-use Rattle.std.proofs.lemmas.Slice.Eq.{bytes_eq-Decides}
 use Rattle.csv.specs.Reading.{default_config, records}
 use Rattle.csv.specs.Writing.{fields_text}
 use Rattle.ballot_form.specs.Ballots.{IsPoll, IsValidBallot}
@@ -22,6 +21,7 @@ use Rattle.ballot_csv.specs.Marks.{without_marks}
 use Rattle.ballot_csv.specs.OneRecord.{is_empty}
 use Rattle.ballot_csv.specs.PlainForm.{name_at, plain_form, plain_records, record_of, run_records, runs_of, text_of_records, with_ballot}
 use Rattle.ballot_csv.proofs.Back.{HasCells, records_back}
+use Rattle.ballot_csv.proofs.NameFacts.{bytes_differ, place_of_name}
 use Rattle.ballot_csv.proofs.Reread.{IsNamed, IsReadable, Writable, first_all, rest_all, rows_back, rows_good, runs_back, spread}
 
 -- what stands after others is none of them
@@ -33,12 +33,6 @@ fresh before x rest apart k d within same =
 -- the same list, one item on
 one_on : {X : Type 0} (before : List X) (x : X) (rest : List X) → AllPairs (λ a b. a ≢ b) (before ++ x ∷ rest) → AllPairs (λ a b. a ≢ b) ((before ++ x ∷ []) ++ rest)
 one_on {X} before x rest apart = subst (λ (xs : List X). AllPairs (λ a b. a ≢ b) xs) (sym (append_assoc before (x ∷ []) rest)) apart
-
-bytes_differ : (x y : List ℕ) → (y ≡ x → ⊥) → bytes_eq x y ≡ false
-bytes_differ x y other = elim (cases_Bool (bytes_eq x y)) [
-  | inl same ↦ absurd (other (sym ((bytes_eq-Decides x y).0 same)))
-  | inr differs ↦ differs
-]
 
 -- admitted and distinct names have no fault
 no_fault : (before cells : List (List ℕ)) → All (λ name. is_name name ≡ true) cells → AllPairs (λ a b. a ≢ b) (before ++ cells) → names_fault before cells ≡ None
@@ -58,30 +52,13 @@ filled_all [] filled = refl
 filled_all (cell ∷ []) filled = rw (first_all (λ c. is_empty c ≡ false) cell [] filled) refl
 filled_all (cell ∷ next ∷ cells) filled = rw (filled_all (next ∷ cells) (rest_all (λ c. is_empty c ≡ false) cell (next ∷ cells) filled)) refl
 
--- a test that passes first at a place
-first_at : {X : Type 0} (p : X → Bool) (xs : List X) (i : ℕ) (d : X) → i < length xs → p (get_or xs i d) ≡ true → ((k : ℕ) → k < i → p (get_or xs k d) ≡ false)
-    → prefix_len (λ x. not (p x)) xs ≡ i
-first_at p [] i d within here before = absurd (omega (arith, within))
-first_at p (x ∷ xs) zero d within here before = rw here refl
-first_at p (x ∷ xs) (suc i) d within here before =
-    let rest = first_at p xs i d (omega arith) here (λ k below. before (suc k) (omega arith)) in
-    let first = before 0 (omega arith) in
-    rw (first, rest) (omega arith)
-
-place_is : {X : Type 0} (p : X → Bool) (xs : List X) (i : ℕ) (d : X) → i < length xs → p (get_or xs i d) ≡ true → ((k : ℕ) → k < i → p (get_or xs k d) ≡ false)
-    → position p xs ≡ Some i
-place_is p xs i d within here before =
-    let inside : nat_lt i (length xs) ≡ true = grind (arith, nat_tests) in
-    rw (first_at p xs i d within here before, inside) refl
-
 -- the name of a candidate is found at its place
 named : (names : List (List ℕ)) (x : ℕ) → All (λ name. is_name name ≡ true) names → AllPairs (λ a b. a ≢ b) names → x < length names → IsNamed names x
 named names x good apart within =
     let is : name_at names x ≡ get_or names x [] = unwrap_or-slice_get names x [] in
     record {
       filled = rw is (name_filled (get_or names x []) (good x [] within));
-      found = rw is (place_is (bytes_eq (get_or names x [])) names x [] within ((bytes_eq-Decides (get_or names x []) (get_or names x [])).1 refl)
-          (λ k below. bytes_differ (get_or names x []) (get_or names k []) (apart k x [] below within)));
+      found = rw is (place_of_name names (get_or names x []) x [] apart within refl);
     }
 
 -- a valid ballot is read as it

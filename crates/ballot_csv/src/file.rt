@@ -13,7 +13,7 @@ use crate::head::read_head;
 use crate::names::NameIndex;
 use crate::record::add_record;
 use crate::records::Records;
-use ballot_form::{Contest, Roll};
+use ballot_form::{Contest, Ranking, Roll};
 use csv::ByteRecord;
 use std::alloc::Global;
 
@@ -68,9 +68,10 @@ fn add_records(
         (file.records_fault names.now 2 (length roll.old.ballots) records.old ≡ Some fault)) }
 {
     let mut cells = ByteRecord::new(alloc);
+    let mut ballot = Ranking::new(alloc);
     let mut at = 2u64;
     while has_next(records, &mut cells)? {
-        if let Err(kind) = add_record(alloc, names, &cells, roll) {
+        if let Err(kind) = add_record(names, &cells, &mut ballot, roll) {
             return Err(BallotFault { kind, at });
         }
         at += 1;

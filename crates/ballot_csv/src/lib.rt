@@ -1,5 +1,4 @@
-//! The ballot file: reads it into a contest, and prints a contest in the plain form, by `csv` over bytes in memory, with the
-//! candidates' names found by `indexmap`.
+//! The ballot file: reads it into a contest, and prints a contest in the plain form, by `csv` over bytes in memory.
 //!
 //! `read_ballots` answers exactly what the definition of reading in `specs/` says of the file's records: the contest, or the first
 //! fault with the number of its record. `print_ballots` gives exactly the plain form, and the definition of reading says of it

@@ -1,11 +1,11 @@
 // Prints a contest in the plain form.
-ghost use Rattle.std.specs.Prelude.{◌≡◌, ◌+◌, ◌<◌, ◌≤◌, ◌++◌, [], ◌∷◌, All, codes, decimal, drop, length, slice_get, Some, IfOk, IfSome, OnOk};
+ghost use Rattle.std.specs.Prelude.{◌≡◌, ◌<◌, ◌++◌, [], ◌∷◌, All, codes, decimal, length, IfOk, OnOk};
 ghost use Rattle.csv.specs.Records.{fields_of, partial_of};
 ghost use Rattle.ballot_csv.specs.BallotFile.{IsRead, named_poll_of};
-ghost use Rattle.ballot_csv.specs.PlainForm.{plain_form, record_of, run_records, runs_of, text_of_records};
+ghost use Rattle.ballot_csv.specs.PlainForm.{plain_form, record_of, run_records, text_of_records};
 
 use crate::plain::PlainText;
-use ballot_form::{Cand, Contest, Names, Roll, Text};
+use ballot_form::{Cand, Contest, Names, Text};
 use csv::ByteRecord;
 use itoa::Buffer;
 use mov_base::Memory;
@@ -42,51 +42,15 @@ fn write_runs(contest: &Contest, cells: &mut ByteRecord, text: &mut PlainText) -
     ensures { OnOk result (text.new
         ≡ text.old ++ text_of_records (run_records contest.now.names contest.now.roll.ballots)) }
 {
-    let mut start = 0;
-    while start < contest.roll.len() {
-        let count = run_len(&contest.roll, start);
-        run_record(contest, start, count, cells)?;
+    for run in contest.roll.runs() {
+        run_record(contest.names.as_slice(), run.count, run.row, cells)?;
         text.write(cells)?;
-        start += count;
     }
     Ok(())
 }
 
-/// How many equal ballots stand together from the one with the number `start + 1` on.
-fn run_len(roll: &Roll, start: u32) -> u32
-    requires { start < length roll.now.ballots }
-    ensures some { 0 < result }
-    ensures within { start + result ≤ length roll.now.ballots }
-    ensures run { IfSome (slice_get roll.now.ballots start) (λ ballot. runs_of (drop start roll.now.ballots)
-        ≡ (result, ballot) ∷ runs_of (drop (start + result) roll.now.ballots)) }
-{
-    let len = roll.len();
-    let ballot = roll.row(start);
-    for end in start + 1..len {
-        if roll.row(end) != ballot {
-            return end - start;
-        }
-    }
-    len - start
-}
-
-/// Makes the record of so many ballots that are equal to the one with the number `start + 1`.
-fn run_record(
-    contest: &Contest,
-    start: u32,
-    count: u32,
-    cells: &mut ByteRecord,
-) -> Result<(), Memory>
-    requires { start < length contest.now.roll.ballots }
-    ensures { OnOk result (IfSome (slice_get contest.now.roll.ballots start)
-        (λ ballot. fields_of cells.new ≡ record_of contest.now.names (count, ballot))) }
-{
-    let ballot = contest.roll.row(start);
-    fill_record(contest.names.as_slice(), count, ballot, cells)
-}
-
 /// Makes the record of so many ballots that are equal to this one.
-fn fill_record(
+fn run_record(
     names: &[Text],
     count: u32,
     ballot: &[Cand],

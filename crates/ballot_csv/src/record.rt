@@ -12,13 +12,12 @@ use crate::fault::BallotKind;
 use crate::names::NameIndex;
 use ballot_form::{PushFault, Ranking, Roll};
 use csv::ByteRecord;
-use std::alloc::Global;
 
-/// Adds the ballots of a record below the head.
+/// Adds the ballots of a record below the head. `ballot` is overwritten: its memory serves for each record's ballot.
 pub(crate) fn add_record(
-    alloc: Global,
     names: &NameIndex,
     cells: &ByteRecord,
+    ballot: &mut Ranking,
     roll: &mut Roll,
 ) -> Result<(), BallotKind>
     requires { length names.now ≡ roll.old.c }
@@ -34,7 +33,7 @@ pub(crate) fn add_record(
     let Some(count) = read_count(cell_at(cells, 0)) else {
         return Err(BallotKind::BadCount);
     };
-    let ballot = read_ballot(alloc, names, cells)?;
+    read_ballot(names, cells, ballot)?;
     match roll.push_times(ballot.as_slice(), count) {
         Ok(()) => Ok(()),
         Err(PushFault::TooMany) => Err(BallotKind::TooManyBallots),
@@ -55,20 +54,24 @@ fn is_passed(cells: &ByteRecord) -> bool
     true
 }
 
-/// The ballot that the cells after the count name.
+/// Makes the ballot that the cells after the count name.
 #[tactic(auto, using(crate::proofs::CellFacts::rest_more))]
-fn read_ballot(alloc: Global, names: &NameIndex, cells: &ByteRecord) -> Result<Ranking, BallotKind>
-    ensures ballot { IfOk result (λ ballot. ballot ≡ ballot_of names.now (drop 1 (fields_of cells.now))) }
-    ensures below { IfOk result (λ ballot. All (λ x. x < length names.now) ballot) }
+fn read_ballot(
+    names: &NameIndex,
+    cells: &ByteRecord,
+    ballot: &mut Ranking,
+) -> Result<(), BallotKind>
+    ensures ballot { OnOk result (ballot.new ≡ ballot_of names.now (drop 1 (fields_of cells.now))) }
+    ensures below { OnOk result (All (λ x. x < length names.now) ballot.new) }
     ensures known { OnOk result (list_any (is_unknown names.now) (drop 1 (fields_of cells.now)) ≡ false) }
     ensures err { IfErr result (λ kind. OrMemory kind
         ((kind ≡ BallotKind.UnknownName) × (list_any (is_unknown names.now) (drop 1 (fields_of cells.now)) ≡ true))) }
 {
-    let mut ballot = Ranking::new(alloc);
+    ballot.clear();
     for i in 1..cells.len() {
-        add_cell(names, cell_at(cells, i), &mut ballot)?;
+        add_cell(names, cell_at(cells, i), ballot)?;
     }
-    Ok(ballot)
+    Ok(())
 }
 
 /// Adds the candidate that a cell names, if it isn't on the ballot yet.

@@ -1,4 +1,3 @@
-pub mod Counting
 pub mod FirstCounts
 pub mod Given
 pub mod Kept

@@ -22,10 +22,10 @@ cell_other c counts x y v a b yc bc other =
     let ne : a * c + b ≢ x * c + y = λ e. other (same_cell c a b x y bc yc e) in
     rw get_or-set_other refl
 
--- one more at a place
-pub one_more : (c : ℕ) (counts : List ℕ) (x y a b : ℕ) → x < c → y < c → a < c → b < c → length counts ≡ c * c
-    → count_at c (set counts (x * c + y) (count_at c counts x y + 1)) a b ≡ count_at c counts a b + cond ((x == a) && (y == b)) 1 0
-one_more c counts x y a b xc yc ac bc square = elim (cases_eq x a) [
+-- so many more at a place
+pub more_at : (c : ℕ) (counts : List ℕ) (x y a b n : ℕ) → x < c → y < c → a < c → b < c → length counts ≡ c * c
+    → count_at c (set counts (x * c + y) (count_at c counts x y + n)) a b ≡ count_at c counts a b + cond ((x == a) && (y == b)) n 0
+more_at c counts x y a b n xc yc ac bc square = elim (cases_eq x a) [
   | inl ex ↦ elim (cases_eq y b) [
     | inl ey ↦
         let t : ((x == a) && (y == b)) ≡ true = grind (arith, nat_tests) in

@@ -1,17 +1,21 @@
 -- Counts of ballots.
-use Rattle.std.proofs.Common.{ℕ, List, [], ◌∷◌, Some, ◌≡◌, ◌<◌, ◌≤◌, ◌+◌, ◌-◌, take, cond, slice_get, refl, arith}
-use Rattle.std.proofs.lemmas.List.Sums.{sum_by-cons}
-use Rattle.ballot_form.proofs.Counting.{count_by_more}
+use Rattle.std.proofs.Common.{ℕ, List, [], ◌∷◌, ◌≡◌, ◌<◌, ◌≤◌, ◌+◌, ◌-◌, cond, length, refl, arith}
+use Rattle.std.proofs.lemmas.List.Sums.{count_by-le-length, sum_by-cons}
+use Rattle.ballot_form.proofs.RunSums.{count_of_run}
 use Rattle.condorcet_count.specs.Behind.{behind_count, is_behind}
+use Rattle.ballot_form.specs.declared.runs.Run.{Run}
 use Rattle.ballot_form.specs.Ballots.{Poll}
+use Rattle.ballot_form.specs.Runs.{IsFirstRun, Left}
 use Rattle.condorcet_count.specs.Preferences.{ArePrefs, count_at, pref_of, prefers}
 use Rattle.condorcet_count.proofs.Places.{prefers_or_behind}
 
--- one ballot more
-pub behind_count_more : (rows : List (List ℕ)) (i : ℕ) (row : List ℕ) (x y : ℕ) → slice_get rows i ≡ Some row
-    → behind_count (take (i + 1) rows) x y ≡ behind_count (take i rows) x y + cond (is_behind row x y) 1 0
-behind_count_more rows i row x y at =
-    count_by_more (λ r. is_behind r x y) rows i row at
+-- a run more
+pub behind_of_run : (old : Left) (run : Run) (new : Left) (x y : ℕ) → IsFirstRun old run new
+    → behind_count old.ballots x y ≡ cond (is_behind run.row.now x y) run.count 0 + behind_count new.ballots x y
+behind_of_run old run new x y is = count_of_run (λ row. is_behind row x y) old run new is
+
+pub behind_le : (rows : List (List ℕ)) (x y : ℕ) → behind_count rows x y ≤ length rows
+behind_le rows x y = count_by-le-length (λ row. is_behind row x y) rows
 
 -- of the ballots that rank x, those that don't have y up to it prefer x
 pub all_that_rank : (rows : List (List ℕ)) (x y : ℕ) → pref_of rows x y + behind_count rows x y ≡ behind_count rows x x

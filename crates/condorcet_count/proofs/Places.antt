@@ -35,38 +35,38 @@ place_at_most [] (suc i) y = tt
 place_at_most (z ∷ zs) zero y = tt
 place_at_most (z ∷ zs) (suc i) y = at_most_here (z == y) i (option_map suc (place_of y (take i zs))) (at_most_suc i (place_of y (take i zs)) (place_at_most zs i y))
 
--- one more place of an upto list
-on_step : (t : Bool) (o : Option ℕ) (u : Bool) (n : ℕ) → (u ≡ true → o ≡ None) → cond (t && is_some (or_else o (cond u (Some n) None))) 1 0 ≡ cond (t && is_some o) 1 0 + cond (t && u) 1 0
-on_step false o u n once = refl
-on_step true o true n once = rw (once refl) refl
-on_step true None false n once = refl
-on_step true (Some m) false n once = refl
+-- one more place of an upto list, of k equal ballots
+on_step : (t : Bool) (o : Option ℕ) (u : Bool) (n k : ℕ) → (u ≡ true → o ≡ None) → cond (t && is_some (or_else o (cond u (Some n) None))) k 0 ≡ cond (t && is_some o) k 0 + cond (t && u) k 0
+on_step false o u n k once = refl
+on_step true o true n k once = rw (once refl) (omega arith)
+on_step true None false n k once = refl
+on_step true (Some m) false n k once = omega arith
 
-pub on_more : (row : List ℕ) (i y : ℕ) (t : Bool) → AreDistinct row → i < length row
-    → cond (t && is_on (take (i + 1) row) y) 1 0 ≡ cond (t && is_on (take i row) y) 1 0 + cond (t && (get_or row i 0 == y)) 1 0
-on_more row i y t distinct within =
+pub on_more : (row : List ℕ) (i y : ℕ) (t : Bool) (k : ℕ) → AreDistinct row → i < length row
+    → cond (t && is_on (take (i + 1) row) y) k 0 ≡ cond (t && is_on (take i row) y) k 0 + cond (t && (get_or row i 0 == y)) k 0
+on_more row i y t k distinct within =
     let s : i + 1 ≡ suc i = omega arith in
-    rw (s, place_more row i y within) (on_step t (place_of y (take i row)) (get_or row i 0 == y) (suc i) (not_before row i y distinct within))
+    rw (s, place_more row i y within) (on_step t (place_of y (take i row)) (get_or row i 0 == y) (suc i) k (not_before row i y distinct within))
 
--- one more place of a ballot
-behind_step : (n : ℕ) (oa ob : Option ℕ) (t u : Bool) → AtMost n oa → AtMost n ob → (t ≡ true → oa ≡ None) → (u ≡ true → ob ≡ None)
-    → cond (comes_after (or_else oa (cond t (Some (suc n)) None)) (or_else ob (cond u (Some (suc n)) None))) 1 0
-    ≡ cond (comes_after oa ob) 1 0 + cond (t && is_some (or_else ob (cond u (Some (suc n)) None))) 1 0
-behind_step n oa ob true true la lb na nb = rw (na refl, nb refl) (grind (arith, nat_tests))
-behind_step n oa None true false la lb na nb = rw (na refl) refl
-behind_step n oa (Some q) true false la lb na nb = rw (na refl) (grind (arith, nat_tests))
-behind_step n None ob false true la lb na nb = refl
-behind_step n (Some r) ob false true la lb na nb = rw (nb refl) (grind (arith, nat_tests))
-behind_step n None ob false false la lb na nb = refl
-behind_step n (Some r) None false false la lb na nb = refl
-behind_step n (Some r) (Some q) false false la lb na nb = omega arith
+-- one more place of k equal ballots
+behind_step : (n : ℕ) (oa ob : Option ℕ) (t u : Bool) (k : ℕ) → AtMost n oa → AtMost n ob → (t ≡ true → oa ≡ None) → (u ≡ true → ob ≡ None)
+    → cond (comes_after (or_else oa (cond t (Some (suc n)) None)) (or_else ob (cond u (Some (suc n)) None))) k 0
+    ≡ cond (comes_after oa ob) k 0 + cond (t && is_some (or_else ob (cond u (Some (suc n)) None))) k 0
+behind_step n oa ob true true k la lb na nb = rw (na refl, nb refl) (grind (arith, nat_tests))
+behind_step n oa None true false k la lb na nb = rw (na refl) refl
+behind_step n oa (Some q) true false k la lb na nb = rw (na refl) (grind (arith, nat_tests))
+behind_step n None ob false true k la lb na nb = refl
+behind_step n (Some r) ob false true k la lb na nb = rw (nb refl) (grind (arith, nat_tests))
+behind_step n None ob false false k la lb na nb = refl
+behind_step n (Some r) None false false k la lb na nb = refl
+behind_step n (Some r) (Some q) false false k la lb na nb = omega arith
 
-pub behind_more : (row : List ℕ) (i x y : ℕ) → AreDistinct row → i < length row
-    → cond (is_behind (take (i + 1) row) x y) 1 0 ≡ cond (is_behind (take i row) x y) 1 0 + cond ((get_or row i 0 == x) && is_on (take (i + 1) row) y) 1 0
-behind_more row i x y distinct within =
+pub behind_more : (row : List ℕ) (i x y k : ℕ) → AreDistinct row → i < length row
+    → cond (is_behind (take (i + 1) row) x y) k 0 ≡ cond (is_behind (take i row) x y) k 0 + cond ((get_or row i 0 == x) && is_on (take (i + 1) row) y) k 0
+behind_more row i x y k distinct within =
     let s : i + 1 ≡ suc i = omega arith in
     rw (s, place_more row i x within, place_more row i y within)
-    (behind_step i (place_of x (take i row)) (place_of y (take i row)) (get_or row i 0 == x) (get_or row i 0 == y) (place_at_most row i x) (place_at_most row i y)
+    (behind_step i (place_of x (take i row)) (place_of y (take i row)) (get_or row i 0 == x) (get_or row i 0 == y) k (place_at_most row i x) (place_at_most row i y)
     (not_before row i x distinct within) (not_before row i y distinct within))
 
 -- a ballot that ranks x prefers it to y, or has y no later

@@ -2,7 +2,7 @@
 use Rattle.std.proofs.Common.{ℕ, zero, suc, List, [], ◌∷◌, ◌++◌, ◌≡◌, ◌<◌, ◌≤◌, ◌+◌, ◌*◌, ◌∙◌, take, length, map, get_or, sym, refl, ap, arith}
 use Rattle.std.specs.Prelude.{nat_eq, ℤ, pos, ◌-ℤ◌}
 use Rattle.std.specs.Str.{bytes_eq}
-use Rattle.std.proofs.lemmas.List.{take_all, take_more, map-append, length-map}
+use Rattle.std.proofs.lemmas.List.{take_more, map-append, length-map}
 use Rattle.mov_base.specs.Sums.{add_up, sum_z}
 use Rattle.mov_base.proofs.Sums.{add_up-append, add_up-le}
 use Rattle.ballot_form.specs.declared.limits.TheConstants.{MOST_BALLOTS}
@@ -87,9 +87,6 @@ counted_more f i kinds row n points sum lt row_is n_is points_is is =
     let j = add_up-append (λ (k : List ℕ × ℕ). k.1 * f k.0) (take i kinds) (get_or kinds i ([], 0) ∷ []) in
     rw (first_kinds kinds i lt, points_is, row_is, n_is) (omega (arith, j, is))
 
-pub counted_all : (f : List ℕ → ℕ) (i : ℕ) (kinds : List (List ℕ × ℕ)) (sum : ℕ) → length kinds ≤ i → sum ≡ add_up (λ k. k.1 * f k.0) (take i kinds) → sum ≡ add_up (λ k. k.1 * f k.0) kinds
-counted_all f i kinds sum all is = is ∙ ap (add_up (λ k. k.1 * f k.0)) (take_all i kinds all)
-
 by_kinds : (f : List ℕ → ℕ) (race : Race) → IsRace race → ((ballot : List ℕ) → f (seen_by race.rule ballot) ≡ f ballot)
     → add_up (λ k. k.1 * f k.0) race.kinds ≡ add_up f race.roll.now.ballots
 by_kinds f race is same =
@@ -100,12 +97,12 @@ by_kinds f race is same =
     alike [] = refl
     alike (ballot ∷ ballots) = omega (arith, same ballot, alike ballots)
 
-pub pair_values : (race : Race) (g l : ℕ) (classes : List (ℕ × ℕ)) (sum lone : ℤ) (ballots : ℕ) → IsRace race
+pub pair_values : (race : Race) (g l : ℕ) (classes : List (ℕ × ℕ)) (gained lost : ℕ) (sum lone : ℤ) (ballots : ℕ) → IsRace race
     → classes ≡ add_all nat_eq [] (keyed (key_of (election_of race) (Pair g l)) race.kinds)
-    → sum ≡ pos (add_up (λ k. k.1 * gainer_points (election_of race) g l k.0) race.kinds) -ℤ pos (add_up (λ k. k.1 * loser_points (election_of race) g l k.0) race.kinds)
-    → lone ≡ pair_weight (election_of race) g l (g ∷ []) → ballots ≡ length race.roll.now.ballots
+    → gained ≡ add_up (λ k. k.1 * gainer_points (election_of race) g l k.0) race.kinds → lost ≡ add_up (λ k. k.1 * loser_points (election_of race) g l k.0) race.kinds
+    → sum ≡ pos gained -ℤ pos lost → lone ≡ pair_weight (election_of race) g l (g ∷ []) → ballots ≡ length race.roll.now.ballots
     → IsGroundOf (election_of race) (record { goal = Pair g l; classes = classes; sums = sum ∷ []; ballots = ballots; lone = lone })
-pair_values race g l classes sum lone ballots is classes_are sum_is alone count =
+pair_values race g l classes gained lost sum lone ballots is classes_are gained_is lost_is sum_is alone count =
     let e = election_of race in
     let p = race.roll.now in
     record {
@@ -114,11 +111,11 @@ pair_values race g l classes sum lone ballots is classes_are sum_is alone count 
           classes_are ∙ ap (λ ks. add_all nat_eq [] (keyed key ks)) is.kinds ∙ classes_by_kinds key (map (seen_by race.rule) p.ballots)
           ∙ ap (classes_of nat_eq) (seen_alike key (seen_by race.rule) p.ballots (key_seen e g l));
       sums =
-          let gained = by_kinds (gainer_points e g l) race is (gainer_seen e g l) in
-          let lost = by_kinds (loser_points e g l) race is (loser_seen e g l) in
+          let all_gained = gained_is ∙ by_kinds (gainer_points e g l) race is (gainer_seen e g l) in
+          let all_lost = lost_is ∙ by_kinds (loser_points e g l) race is (loser_seen e g l) in
           let w = sum_z-difference (gainer_points e g l) (loser_points e g l) p.ballots in
-          let s : sum ≡ sum_z (pair_weight e g l) p.ballots = sum_is ∙ ap (λ n. pos n -ℤ pos (add_up (λ k. k.1 * loser_points e g l k.0) race.kinds)) gained
-          ∙ ap (λ n. pos (add_up (gainer_points e g l) p.ballots) -ℤ pos n) lost ∙ sym w in
+          let s : sum ≡ sum_z (pair_weight e g l) p.ballots =
+          sum_is ∙ ap (λ n. pos n -ℤ pos lost) all_gained ∙ ap (λ n. pos (add_up (gainer_points e g l) p.ballots) -ℤ pos n) all_lost ∙ sym w in
           ap (λ z. z ∷ []) s;
       ballots = count;
       lone = alone;

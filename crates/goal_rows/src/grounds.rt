@@ -1,5 +1,5 @@
 // What a goal is before any replacement.
-ghost use Rattle.std.specs.Prelude.{◌≡◌, ◌≤◌, ◌*◌, pos, ◌-ℤ◌, [], ◌∷◌, IfOk, nat_eq};
+ghost use Rattle.std.specs.Prelude.{◌≡◌, ◌≤◌, ◌+◌, ◌-◌, ◌*◌, pos, ◌-ℤ◌, [], ◌∷◌, IfOk, nat_eq};
 ghost use Rattle.mov_base.specs.Sums.{add_up};
 ghost use Rattle.signature_class.specs.Classes.{add_all};
 ghost use Rattle.goal_rows.specs.Goals.{gainer_points, loser_points, pair_weight};
@@ -41,11 +41,11 @@ fn under_pair(alloc: Global, race: &Race<'_>, gainer: Cand, loser: Cand) -> Resu
     ensures values { IfOk result (IsGroundOf (election_of race.now)) }
 {
     let ballots = race.roll.len();
-    let classes = pair_classes(alloc, race, gainer, loser)?;
-    let sums = one_sum(alloc, value(race, gainer, loser))?;
+    let tally = tally_kinds(alloc, race, gainer, loser)?;
+    let sums = one_sum(alloc, difference(tally.gained, tally.lost))?;
     Ok(Ground {
         goal: Goal::Pair(gainer, loser),
-        classes,
+        classes: tally.classes,
         sums,
         ballots,
         lone: weight(race, gainer, loser, &[gainer]),
@@ -56,16 +56,18 @@ fn under_pair(alloc: Global, race: &Race<'_>, gainer: Cand, loser: Cand) -> Resu
 fn weight(race: &Race<'_>, gainer: Cand, loser: Cand, row: &[Cand]) -> i64
     ensures { result ≡ pair_weight (election_of race.now) gainer loser row.now }
 {
-    for_gainer(race, gainer, loser, row) as i64 - for_loser(race, gainer, loser, row) as i64
+    difference(
+        for_gainer(race, gainer, loser, row),
+        for_loser(race, gainer, loser, row),
+    )
 }
 
-/// The value of the pair's row.
-fn value(race: &Race<'_>, gainer: Cand, loser: Cand) -> i64
-    requires few { add_up (λ k. k.1) race.now.kinds ≤ MOST_BALLOTS }
-    ensures { result ≡ pos (add_up (λ k. k.1 * gainer_points (election_of race.now) gainer loser k.0) race.now.kinds)
-        -ℤ pos (add_up (λ k. k.1 * loser_points (election_of race.now) gainer loser k.0) race.now.kinds) }
+/// How far the first number is above the second one.
+fn difference(gained: u64, lost: u64) -> i64
+    requires few_gained { gained ≤ 65536000000 }
+    requires few_lost { lost ≤ 65536000000 }
+    ensures { result ≡ pos gained -ℤ pos lost }
 {
-    let (gained, lost) = counts(race, gainer, loser);
     gained as i64 - lost as i64
 }
 
@@ -78,24 +80,48 @@ fn one_sum(alloc: Global, sum: i64) -> Result<SumList, Memory>
     Ok(sums)
 }
 
-/// The classes of the kinds by their key under the pair.
-#[tactic(auto, using(crate::proofs::Classed::class_more, crate::proofs::Classed::class_room))]
-fn pair_classes(
-    alloc: Global,
-    race: &Race<'_>,
-    gainer: Cand,
-    loser: Cand,
-) -> Result<Classes, Memory>
+/// What the ballots are under a pair.
+#[derive(Drop)]
+struct Tally {
+    /// Their classes by key.
+    classes: Classes,
+    /// What they count for the gainer.
+    gained: u64,
+    /// What they count for the loser.
+    lost: u64,
+}
+
+/// The kinds by their key under the pair, and what all ballots count for the gainer and for the loser. Each kind is
+/// looked at once.
+#[tactic(auto, using(crate::proofs::Classed::class_room, crate::proofs::Classed::kinds_few))]
+fn tally_kinds(alloc: Global, race: &Race<'_>, gainer: Cand, loser: Cand) -> Result<Tally, Memory>
     requires few { add_up (λ k. k.1) race.now.kinds ≤ MOST_BALLOTS }
-    ensures { IfOk result (λ classes.
-        classes ≡ add_all nat_eq [] (keyed (key_of (election_of race.now) (Pair gainer loser)) race.now.kinds)) }
+    ensures classes { IfOk result (λ tally.
+        tally.classes ≡ add_all nat_eq [] (keyed (key_of (election_of race.now) (Pair gainer loser)) race.now.kinds)) }
+    ensures gained { IfOk result (λ tally.
+        tally.gained ≡ add_up (λ k. k.1 * gainer_points (election_of race.now) gainer loser k.0) race.now.kinds) }
+    ensures lost { IfOk result (λ tally.
+        tally.lost ≡ add_up (λ k. k.1 * loser_points (election_of race.now) gainer loser k.0) race.now.kinds) }
+    ensures few_gained { IfOk result (λ tally. tally.gained ≤ 65536000000) }
+    ensures few_lost { IfOk result (λ tally. tally.lost ≤ 65536000000) }
 {
     let mut classes = Classes::new(alloc);
+    let mut gained = 0;
+    let mut lost = 0;
     for i in 0..race.kinds.len() {
-        let key = pair_key(race, gainer, loser, race.kinds.row(i));
-        classes.add(key, race.kinds.count(i))?;
+        let row = race.kinds.row(i);
+        let count = race.kinds.count(i);
+        let plus = for_gainer(race, gainer, loser, row);
+        let minus = for_loser(race, gainer, loser, row);
+        classes.add(pair_key(plus, minus), count)?;
+        gained += u64::from(count) * plus;
+        lost += u64::from(count) * minus;
     }
-    Ok(classes)
+    Ok(Tally {
+        classes,
+        gained,
+        lost,
+    })
 }
 
 /// The key of a ballot under a goal: its class in the goal's ground.
@@ -104,37 +130,17 @@ pub fn key(race: &Race<'_>, goal: &Goal, row: &[Cand]) -> u64
 {
     match goal {
         Goal::Root => 0,
-        Goal::Pair(gainer, loser) => pair_key(race, *gainer, *loser, row),
+        Goal::Pair(gainer, loser) => pair_key(
+            for_gainer(race, *gainer, *loser, row),
+            for_loser(race, *gainer, *loser, row),
+        ),
     }
 }
 
-/// The key of a ballot under the pair.
-fn pair_key(race: &Race<'_>, gainer: Cand, loser: Cand, row: &[Cand]) -> u64
-    ensures { result ≡ key_of (election_of race.now) (Pair gainer loser) row.now }
+/// The key of a ballot that counts so much for the gainer of a pair, and so much for the loser.
+fn pair_key(plus: u64, minus: u64) -> u64
+    requires few { plus ≤ 65536 }
+    ensures { result ≡ (plus + 1024) - minus }
 {
-    (for_gainer(race, gainer, loser, row) + 1024).saturating_sub(for_loser(
-        race, gainer, loser, row,
-    ))
-}
-
-/// What all ballots count for the gainer, and what they count for the loser.
-#[tactic(auto, using(crate::proofs::Classed::counted_more, crate::proofs::Classed::kinds_more, crate::proofs::Classed::kinds_few))]
-fn counts(race: &Race<'_>, gainer: Cand, loser: Cand) -> (u64, u64)
-    requires few { add_up (λ k. k.1) race.now.kinds ≤ MOST_BALLOTS }
-    ensures gained { result.0
-        ≡ add_up (λ k. k.1 * gainer_points (election_of race.now) gainer loser k.0) race.now.kinds }
-    ensures lost { result.1
-        ≡ add_up (λ k. k.1 * loser_points (election_of race.now) gainer loser k.0) race.now.kinds }
-    ensures few_gained { result.0 ≤ 65536000000 }
-    ensures few_lost { result.1 ≤ 65536000000 }
-{
-    let mut gained = 0;
-    let mut lost = 0;
-    for i in 0..race.kinds.len() {
-        let row = race.kinds.row(i);
-        let count = u64::from(race.kinds.count(i));
-        gained += count * for_gainer(race, gainer, loser, row);
-        lost += count * for_loser(race, gainer, loser, row);
-    }
-    (gained, lost)
+    (plus + 1024).saturating_sub(minus)
 }

@@ -39,17 +39,17 @@ fn is_level(race: &Race<'_>, roll: &Roll, gainer: Cand, loser: Cand) -> bool
 }
 
 /// What the ballots count for the gainer, and what they count for the loser.
-#[tactic(auto, using(mov_base::proofs::Sums::add_up_more))]
+#[tactic(auto, using(ballot_form::proofs::RunSums::sum_of_run, ballot_form::proofs::RunSums::length_of_run))]
 fn ballot_counts(race: &Race<'_>, roll: &Roll, gainer: Cand, loser: Cand) -> (u64, u64)
     ensures gained { result.0 ≡ add_up (gainer_points (election_of race.now) gainer loser) roll.now.ballots }
     ensures lost { result.1 ≡ add_up (loser_points (election_of race.now) gainer loser) roll.now.ballots }
 {
     let mut gained = 0;
     let mut lost = 0;
-    for i in 0..roll.len() {
-        let row = roll.row(i);
-        gained += for_gainer(race, gainer, loser, row);
-        lost += for_loser(race, gainer, loser, row);
+    for run in roll.runs() {
+        let count = u64::from(run.count);
+        gained += count * for_gainer(race, gainer, loser, run.row);
+        lost += count * for_loser(race, gainer, loser, run.row);
     }
     (gained, lost)
 }

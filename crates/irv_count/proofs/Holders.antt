@@ -1,18 +1,23 @@
 -- Who holds how many ballots.
-use Rattle.std.proofs.Common.{ℕ, suc, List, [], ◌∷◌, Option, Some, Bool, true, false, ◌≡◌, ◌<◌, ◌+◌, ◌∙◌, take, slice_get, cond, refl, sym, ap, inl, inr, arith, All}
+use Rattle.std.proofs.Common.{ℕ, suc, List, [], ◌∷◌, Option, Bool, true, false, ◌≡◌, ◌<◌, ◌≤◌, ◌+◌, ◌∙◌, length, cond, refl, sym, ap, inl, inr, arith, All}
 use Rattle.std.specs.Prelude.{find, count_by}
-use Rattle.std.proofs.lemmas.List.Sums.{sum_by-cons}
+use Rattle.std.proofs.lemmas.List.Sums.{count_by-le-length, sum_by-cons}
+use Rattle.ballot_form.specs.declared.runs.Run.{Run}
 use Rattle.ballot_form.specs.Ballots.{IsValidBallot}
+use Rattle.ballot_form.specs.Runs.{IsFirstRun, Left}
 use Rattle.ballot_form.specs.Scores.{is_some_of}
-use Rattle.ballot_form.proofs.Counting.{count_by_more}
+use Rattle.ballot_form.proofs.RunSums.{count_of_run}
 use Rattle.irv_count.specs.Orders.{held_count, holder, stands}
 use Rattle.irv_count.specs.Rounds.{AreBitsOf}
 use Rattle.irv_count.proofs.Members.{bool_cases, differ_test}
 
--- one ballot more, whose holder is known
-pub held_more : (standing : ℕ) (rows : List (List ℕ)) (i : ℕ) (row : List ℕ) (who : Option ℕ) (x : ℕ) → slice_get rows i ≡ Some row → who ≡ holder (stands standing) row
-    → held_count (stands standing) (take (i + 1) rows) x ≡ held_count (stands standing) (take i rows) x + cond (is_some_of who x) 1 0
-held_more standing rows i row who x at is = rw is (count_by_more (λ row. is_some_of (holder (stands standing) row) x) rows i row at)
+-- a run more, whose holder is known
+pub held_of_run : (standing : ℕ) (old : Left) (run : Run) (new : Left) (who : Option ℕ) (x : ℕ) → IsFirstRun old run new → who ≡ holder (stands standing) run.row.now
+    → held_count (stands standing) old.ballots x ≡ cond (is_some_of who x) run.count 0 + held_count (stands standing) new.ballots x
+held_of_run standing old run new who x is known = rw known (count_of_run (λ row. is_some_of (holder (stands standing) row) x) old run new is)
+
+pub held_le : (set : ℕ → Bool) (rows : List (List ℕ)) (x : ℕ) → held_count set rows x ≤ length rows
+held_le set rows x = count_by-le-length (λ row. is_some_of (holder set row) x) rows
 
 find_same : (s t : ℕ → Bool) (c : ℕ) (row : List ℕ) → All (λ x. x < c) row → ((x : ℕ) → x < c → s x ≡ t x) → find s row ≡ find t row
 find_same s t c [] valid same = refl

@@ -1,5 +1,6 @@
 pub mod Members
 pub mod Bits
+pub mod HeldRows
 pub mod Holders
 pub mod Part
 pub mod Legality

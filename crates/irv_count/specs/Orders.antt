@@ -1,6 +1,6 @@
 -- Instant runoff: who holds a ballot, and which orders of elimination are legal, as in a textbook of voting rules. The choice at the
 -- ties is this project's own.
-use Rattle.std.specs.Prelude.{◌≡◌, ◌⊎◌, ℕ, ◌+◌, ◌<◌, ◌≤◌, ◌==◌, ◌||◌, not, Bool, true, false, List, [], ◌∷◌, length, take, slice_index, Option, Some, None, find, count_by}
+use Rattle.std.specs.Prelude.{◌≡◌, ◌⊎◌, ℕ, ◌+◌, ◌*◌, ◌<◌, ◌≤◌, ◌==◌, ◌||◌, not, Bool, true, false, List, [], ◌∷◌, length, take, slice_index, Option, Some, None, find, count_by}
 use Rattle.std.specs.Int.{bit_at}
 use Rattle.ballot_form.specs.Ballots.{Poll}
 use Rattle.ballot_form.specs.Scores.{is_some_of}
@@ -34,6 +34,10 @@ pub record IsLegalOrder (p : Poll) (order : List ℕ) : Type 0 where
   pub whole : IsOrder p.c order
   pub least : (i y : ℕ) → i < p.c → y < p.c → left_after order i y ≡ true
       → held_count (left_after order i) p.ballots (slice_index order i) ≤ held_count (left_after order i) p.ballots y
+
+-- row by row, what each of c candidates holds where so many of the order have gone
+abbrev pub AreHeld : Poll → List ℕ → List ℕ → Type 0
+AreHeld p order held = (i x : ℕ) → i < length order → x < p.c → slice_index held (i * p.c + x) ≡ held_count (left_after order i) p.ballots x
 
 -- of two with equal counts x goes before y: the higher-numbered, but the one that the choice is against before all others
 abbrev pub GoesFirst : Option ℕ → ℕ → ℕ → Type 0

@@ -8,7 +8,7 @@ use ballot_form::{Cand, Roll};
 
 /// Writes for each candidate how many ballots it holds: those on which it is the first of the set. One that isn't in the set
 /// holds none.
-#[tactic(auto, using(crate::proofs::Holders::held_more))]
+#[tactic(auto, using(crate::proofs::Holders::held_of_run, crate::proofs::Holders::held_le))]
 pub fn held_counts(roll: &Roll, standing: u64, counts: &mut [u32])
     requires size { length counts.old ≡ roll.now.c }
     requires set { standing < 2 ^ roll.now.c }
@@ -16,8 +16,8 @@ pub fn held_counts(roll: &Roll, standing: u64, counts: &mut [u32])
     ensures others { EachIndex counts.new (λ x. stands standing x ≡ false → slice_index counts.new x ≡ 0) }
 {
     counts.fill(0);
-    for i in 0..roll.len() {
-        give(counts, holder_of(roll.row(i), standing));
+    for run in roll.runs() {
+        give(counts, holder_of(run.row, standing), run.count);
     }
 }
 
@@ -29,13 +29,14 @@ fn holder_of(row: &[Cand], standing: u64) -> Option<Cand>
     row.iter().copied().find(|x| stands_in(standing, *x))
 }
 
-/// Counts one ballot more for its holder, if it has one.
-fn give(counts: &mut [u32], holder: Option<Cand>)
+/// Counts so many ballots more for their holder, if they have one.
+fn give(counts: &mut [u32], holder: Option<Cand>, count: u32)
     requires within { IfSome holder (λ x. x < length counts.old) }
-    requires room { IfSome holder (λ x. slice_index counts.old x + 1 < 2 ^ 32) }
-    ensures { EachIndex counts.new (λ x. slice_index counts.new x ≡ slice_index counts.old x + (if is_some_of holder x then 1 else 0)) }
+    requires room { IfSome holder (λ x. slice_index counts.old x + count < 2 ^ 32) }
+    ensures { EachIndex counts.new (λ x. slice_index counts.new x
+        ≡ slice_index counts.old x + (if is_some_of holder x then count else 0)) }
 {
     if let Some(x) = holder {
-        counts[x as usize] += 1;
+        counts[x as usize] += count;
     }
 }

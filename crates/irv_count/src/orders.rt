@@ -1,6 +1,6 @@
 // The orders by a choice at the ties.
-ghost use Rattle.std.specs.Prelude.{◌≡◌, ◌≤◌, ◌<◌, ◌^◌, ◌↔◌, Some, None, IfOk, IfSome, IsTrue, length, slice_index};
-ghost use Rattle.irv_count.specs.Orders.{held_count, stands, IsOrderBy};
+ghost use Rattle.std.specs.Prelude.{◌≡◌, ◌≤◌, ◌<◌, ◌*◌, ◌^◌, ◌↔◌, Some, None, IfOk, IfSome, EachIndex, IsTrue, length, slice_index};
+ghost use Rattle.irv_count.specs.Orders.{held_count, stands, AreHeld, IsOrderBy};
 ghost use Rattle.irv_count.specs.Rounds.{count_to, IsBest, IsEarlier, IsOut};
 
 use crate::held::held_counts;
@@ -13,7 +13,17 @@ use std::alloc::Global;
 pub fn count_irv(alloc: Global, roll: &Roll) -> Result<Ranking, Memory>
     ensures { IfOk result (λ order. IsOrderBy None roll.now order) }
 {
-    order_by(alloc, roll, None)
+    order_alone(alloc, roll, None)
+}
+
+/// The reported order of elimination. Each round has a row in `held`, with a place for each candidate; what everybody
+/// holds in the round is written there.
+pub fn count_rounds(alloc: Global, roll: &Roll, held: &mut [u32]) -> Result<Ranking, Memory>
+    requires { length held.old ≡ roll.now.c * roll.now.c }
+    ensures order { IfOk result (λ order. IsOrderBy None roll.now order) }
+    ensures held { IfOk result (λ order. AreHeld roll.now order held.new) }
+{
+    order_by(alloc, roll, None, held)
 }
 
 /// The order of elimination in which `x` goes out whenever it is among the least, and otherwise the higher-numbered of the least.
@@ -21,33 +31,49 @@ pub fn order_against(alloc: Global, roll: &Roll, x: Cand) -> Result<Ranking, Mem
     requires { x < roll.now.c }
     ensures { IfOk result (λ order. IsOrderBy (Some x) roll.now order) }
 {
-    order_by(alloc, roll, Some(x))
+    order_alone(alloc, roll, Some(x))
 }
 
 /// The order of elimination by this choice at the ties.
-fn order_by(alloc: Global, roll: &Roll, against: Option<Cand>) -> Result<Ranking, Memory>
+fn order_alone(alloc: Global, roll: &Roll, against: Option<Cand>) -> Result<Ranking, Memory>
     ensures { IfOk result (λ order. IsOrderBy against roll.now order) }
 {
-    let c = roll.candidates();
+    let c = usize::from(roll.candidates());
+    let mut held = vec![in alloc; 0u32; c * c]?;
+    order_by(alloc, roll, against, held.as_mut_slice())
+}
+
+/// The order of elimination by this choice at the ties, and what each candidate holds in each round.
+fn order_by(
+    alloc: Global,
+    roll: &Roll,
+    against: Option<Cand>,
+    held: &mut [u32],
+) -> Result<Ranking, Memory>
+    requires { length held.old ≡ roll.now.c * roll.now.c }
+    ensures order { IfOk result (λ order. IsOrderBy against roll.now order) }
+    ensures held { IfOk result (λ order. AreHeld roll.now order held.new) }
+{
+    let c = usize::from(roll.candidates());
     let mut order = Ranking::new(alloc);
-    let mut buffer = vec![in alloc; 0u32; usize::from(c)]?;
-    let counts = buffer.as_mut_slice();
-    let mut standing = all_of(c);
-    for _ in 0..c {
-        let out = next_out(roll, standing, counts, against);
+    let mut standing = all_of(roll.candidates());
+    for i in 0..c {
+        let out = next_out(roll, standing, &mut held[i * c..i * c + c], against);
         order.push(out)?;
         standing = without(standing, out);
     }
     Ok(order)
 }
 
-/// The next to go out of the set.
+/// The next to go out of the set. Writes for each candidate how many ballots it holds.
 fn next_out(roll: &Roll, standing: u64, counts: &mut [u32], against: Option<Cand>) -> Cand
     requires size { length counts.old ≡ roll.now.c }
     requires few { roll.now.c ≤ MOST_CANDIDATES }
     requires set { standing < 2 ^ roll.now.c }
     requires some { 0 < count_to roll.now.c (stands standing) }
-    ensures { IsOut against (held_count (stands standing) roll.now.ballots) standing roll.now.c result }
+    ensures out { IsOut against (held_count (stands standing) roll.now.ballots) standing roll.now.c result }
+    ensures held { EachIndex counts.new (λ x. slice_index counts.new x
+        ≡ held_count (stands standing) roll.now.ballots x) }
 {
     held_counts(roll, standing, counts);
     let Some(out) = first_of_least(counts, standing, against) else {

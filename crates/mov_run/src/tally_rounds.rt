@@ -1,13 +1,13 @@
 // The lines of the rounds.
-ghost use Rattle.std.specs.Prelude.{◌≡◌, ◌≤◌, ◌<◌, ◌^◌, ◌++◌, ◌∷◌, [], if◌then◌else◌, OnOk, codes, decimal, length, slice_index};
+ghost use Rattle.std.specs.Prelude.{◌≡◌, ◌≤◌, ◌*◌, ◌++◌, ◌∷◌, [], if◌then◌else◌, OnOk, codes, decimal, length, slice_index};
 ghost use Rattle.std.specs.List.{join_with_byte};
 ghost use Rattle.ballot_form.specs.declared.rule.Rule.TheVariants.{Irv};
-ghost use Rattle.irv_count.specs.Orders.{IsOrder, held_count, stands};
+ghost use Rattle.irv_count.specs.Orders.{AreHeld, IsOrder, stands};
 ghost use Rattle.mov_run.specs.Tally.{AddsCount, for_each, held_field, round_text, rounds_text};
 
 use crate::tally::push_winner;
 use ballot_form::{Cand, Roll};
-use irv_count::{all_of, count_irv, held_counts, stands_in, without};
+use irv_count::{all_of, count_rounds, stands_in, without};
 use mov_base::Memory;
 use std::alloc::Global;
 use text_lines::written::push_number;
@@ -16,50 +16,44 @@ use text_lines::written::push_number;
 pub(crate) fn push_irv(alloc: Global, out: &mut Vec<u8>, roll: &Roll) -> Result<(), Memory>
     ensures { OnOk result (AddsCount Irv roll.now out.old.items out.new.items) }
 {
-    let order = count_irv(alloc, roll)?;
-    let c = roll.candidates() as usize;
-    let mut counts = vec![in alloc; 0u32; c]?;
-    push_rounds(out, roll, order.as_slice(), counts.as_mut_slice())?;
+    let c = usize::from(roll.candidates());
+    let mut held = vec![in alloc; 0u32; c * c]?;
+    let order = count_rounds(alloc, roll, held.as_mut_slice())?;
+    push_rounds(out, roll, order.as_slice(), held.as_slice())?;
     push_winner(out, order.as_slice()[c - 1])
 }
 
-/// Adds a line for each round, till one is left. `counts` has a place for each candidate, and what is written there
-/// means nothing.
-fn push_rounds(
-    out: &mut Vec<u8>,
-    roll: &Roll,
-    order: &[Cand],
-    counts: &mut [u32],
-) -> Result<(), Memory>
+/// Adds a line for each round, till one is left. Each round has a row in `held`.
+fn push_rounds(out: &mut Vec<u8>, roll: &Roll, order: &[Cand], held: &[u32]) -> Result<(), Memory>
     requires order { IsOrder roll.now.c order.now }
-    requires size { length counts.old ≡ roll.now.c }
+    requires size { length held.now ≡ roll.now.c * roll.now.c }
+    requires held { AreHeld roll.now order.now held.now }
     ensures { OnOk result (out.new.items ≡ out.old.items ++ rounds_text roll.now order.now) }
 {
+    let c = usize::from(roll.candidates());
     let mut standing = all_of(roll.candidates());
     for i in 0..roll.candidates() - 1 {
-        let gone = order[i as usize];
-        push_round(out, roll, standing, counts, i, gone)?;
+        let row = usize::from(i) * c;
+        let gone = order[usize::from(i)];
+        push_round(out, standing, &held[row..row + c], i, gone)?;
         standing = without(standing, gone);
     }
     Ok(())
 }
 
-/// Adds the line of the round with the number `i + 1`, in which `gone` goes out of the set.
+/// Adds the line of the round with the number `i + 1`, in which `gone` goes out of the set, and everybody holds what is
+/// counted.
 fn push_round(
     out: &mut Vec<u8>,
-    roll: &Roll,
     standing: u64,
-    counts: &mut [u32],
+    counts: &[u32],
     i: u8,
     gone: Cand,
 ) -> Result<(), Memory>
-    requires size { length counts.old ≡ roll.now.c }
-    requires few { roll.now.c ≤ 12 }
-    requires set { standing < 2 ^ roll.now.c }
+    requires { length counts.now ≤ 12 }
     ensures { OnOk result (out.new.items ≡ out.old.items
-        ++ round_text roll.now.c (stands standing) (held_count (stands standing) roll.now.ballots) i gone) }
+        ++ round_text (length counts.now) (stands standing) (λ x. slice_index counts.now x) i gone) }
 {
-    held_counts(roll, standing, counts);
     push_gone(out, u64::from(i) + 1, u64::from(gone))?;
     push_held(out, standing, counts)?;
     out.push(b'\n')?;

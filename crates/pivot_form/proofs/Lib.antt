@@ -16,3 +16,6 @@ pub mod Steps
 pub mod Sizes
 pub mod Shorts
 pub mod WholeRows
+pub mod ClassPairs
+pub mod FirstSlots
+pub mod Starts

@@ -8,13 +8,15 @@ use Rattle.std.proofs.lemmas.Bool.Decides.{nat_tests}
 use Rattle.std.proofs.lemmas.List.{get_or-set_same, get_or-set_other, length-set}
 use Rattle.std.proofs.lemmas.List.FromFn.{fill_by_all}
 use Rattle.exact_num.specs.declared.limits.TheConstants.{WIDE}
-use Rattle.row_program.specs.Forms.{eliminated, first_large, first_large_of, map_from, next_row, row_of, turned}
+use mir.Syntax.{w64}
+use mir.Val.{to_z, of_z}
+use Rattle.row_program.specs.Forms.{Table, eliminated, entry, first_large, first_large_of, map_from, next_row, right_side, row_of, turned}
 use Rattle.pivot_form.specs.Kept.{Store, entry_of, right_of, row_entry, table_of, variables_of, whole_row}
 use Rattle.pivot_form.specs.Shorts.{IsBasic, IsShort}
 use Rattle.pivot_form.proofs.Equations.{eliminated_kept, none_from_small}
 use Rattle.pivot_form.proofs.NextForm.{large_past}
-use Rattle.pivot_form.proofs.Shorts.{equation}
-use Rattle.pivot_form.proofs.Whole.{height, row_at, row_entry_inside, row_entry_last}
+use Rattle.pivot_form.proofs.Shorts.{entry_small, equation, kept_bits, right_small}
+use Rattle.pivot_form.proofs.Whole.{entry_is, height, right_is, row_at, row_entry_inside, row_entry_last}
 
 pub basic_at : (s : Store) (i : ℕ) → IsShort s → i < length s.basis → IsBasic s (get_or s.basis i 0)
 basic_at s i is l = record { within = is.store.basics i l; no_column = λ j. is.store.basic_place i j l }
@@ -74,3 +76,20 @@ module _ (s : Store) (r c i : ℕ) (lead : List ℤ) (l : i < length s.basis) (i
   pub past_other : i ≢ r → first_large (eliminated c (whole_row s (get_or s.basis i 0)) lead) ≡ None
       → first_large_of (map_from (made_of s r c) (i + 1) (drop (i + 1) (table_of s).rows)) ≡ first_large_of (map_from (made_of s r c) i (drop i (table_of s).rows))
   past_other apart none = large_past (made_of s r c) (table_of s).rows i inside (other_row apart ∙ none)
+
+-- an entry and a right side of the form, as they are read
+pub entry_read : (s : Store) (t : Table) (row b v : ℕ) (x : ℤ) → IsShort s → table_of s ≡ t → row < length t.rows → v < t.variables → b ≡ get_or s.basis row 0 → x ≡ entry_of s b v → to_z w64 (of_z w64 x) ≡ entry t row v
+entry_read s t row b v x is same inside within basic read =
+    let rows : row < length s.basis = omega (arith, inside, ap (λ (u : Table). length u.rows) same, height s) in
+    let variables : v < variables_of s = omega (arith, within, ap (λ (u : Table). u.variables) same) in
+    let at : x ≡ entry_of s (get_or s.basis row 0) v = read ∙ ap (λ (a : ℕ). entry_of s a v) basic in
+    kept_bits x (rw at (entry_small s (get_or s.basis row 0) v is (basic_at s row is rows) variables)) ∙ at ∙ sym (entry_is s row v rows variables) ∙ ap (λ (u : Table). entry u row v) same
+
+pub right_read : (s : Store) (t : Table) (row b : ℕ) (x : ℤ) → IsShort s → table_of s ≡ t → row < length t.rows → b ≡ get_or s.basis row 0 → x ≡ right_of s b → to_z w64 (of_z w64 x) ≡ right_side t row
+right_read s t row b x is same inside basic read =
+    let rows : row < length s.basis = omega (arith, inside, ap (λ (u : Table). length u.rows) same, height s) in
+    let at : x ≡ right_of s (get_or s.basis row 0) = read ∙ ap (right_of s) basic in
+    kept_bits x (rw at (right_small s (get_or s.basis row 0) is (basic_at s row is rows))) ∙ at ∙ sym (right_is s row rows) ∙ ap (λ (u : Table). right_side u row) same
+
+pub row_inside : (s : Store) (t : Table) (row : ℕ) → table_of s ≡ t → row < length t.rows → row < length s.basis
+row_inside s t row same inside = omega (arith, inside, ap (λ (u : Table). length u.rows) same, height s)

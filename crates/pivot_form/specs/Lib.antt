@@ -1,3 +1,4 @@
 pub mod Invariant
 pub mod Kept
 pub mod Shorts
+pub mod Starts

@@ -1,5 +1,6 @@
 -- What a form that is kept by slots and pairs stands for.
-use Rattle.std.specs.Prelude.{ℕ, ◌≡◌, ◌≢◌, ◌<◌, ◌+◌, ◌^◌, ◌⊎◌, Some, length, unsigned_abs}
+use Rattle.std.specs.Prelude.{ℕ, ◌≡◌, ◌≢◌, ◌<◌, ◌≤◌, ◌+◌, ◌^◌, ◌⊎◌, IfSome, List, Option, Some, length, unsigned_abs}
+use Rattle.std.specs.List.{All}
 use Rattle.row_program.specs.declared.limits.TheConstants.{TERM_LIMIT}
 use Rattle.pivot_form.specs.declared.places.Pair.{Pair}
 use Rattle.pivot_form.specs.declared.places.Place.TheVariants.{Column, Paired}
@@ -31,3 +32,7 @@ pub record IsBasic (s : Store) (b : ℕ) : Type 0 where
 -- the equation of the basic variable is kept, or its pair's other variable is nonbasic
 abbrev pub StandsAlone : Store → ℕ → Type 0
 StandsAlone s b = (place_of s b ≢ Paired) ⊎ ((p : Pair) × (pair_of s b ≡ Some p) × ((j : ℕ) × (place_of s p.other ≡ Column j)))
+
+-- no pair's sum is greater in size
+abbrev pub AreSumsUpTo : ℕ → List (Option Pair) → Type 0
+AreSumsUpTo most pairs = All (λ pair. IfSome pair (λ q. unsigned_abs q.sum ≤ most)) pairs

@@ -90,12 +90,13 @@ fn exchange(
 
 /// Keeps the equation of a basic variable, where its pair's other one is basic too.
 #[tactic(auto, using(crate::proofs::Steps::flipped_short))]
-fn unpair(short: &mut Short, basic: usize)
+pub(crate) fn unpair(short: &mut Short, basic: usize)
     requires short { IsShort (store_of short.old) }
     requires basic { IsBasic (store_of short.old) basic }
     ensures short { IsShort (store_of short.new) }
     ensures same { table_of (store_of short.new) ≡ table_of (store_of short.old) }
     ensures width { short.new.width ≡ short.old.width }
+    ensures pairs { (store_of short.new).pairs ≡ (store_of short.old).pairs }
     ensures basic { IsBasic (store_of short.new) basic }
     ensures alone { StandsAlone (store_of short.new) basic }
 {
@@ -129,6 +130,7 @@ fn pivot_kept(
     ensures short { IsShort (store_of short.new) }
     ensures value { table_of (store_of short.new) ≡ next_form (table_of (store_of short.old)) row entering }
     ensures width { short.new.width ≡ short.old.width }
+    ensures pairs { (store_of short.new).pairs ≡ (store_of short.old).pairs }
 {
     turn(lead, short.rows[slot].as_slice(), column);
     exchange(short, row, entering, column, Some(slot), lead, scratch);
@@ -170,6 +172,7 @@ fn pivot_pair(
     ensures short { IsShort (store_of short.new) }
     ensures value { table_of (store_of short.new) ≡ next_form (table_of (store_of short.old)) row entering }
     ensures width { short.new.width ≡ short.old.width }
+    ensures pairs { (store_of short.new).pairs ≡ (store_of short.old).pairs }
 {
     write_pair(lead, short.width, column, pair.sum);
     exchange(short, row, entering, column, None, lead, scratch);
@@ -194,6 +197,7 @@ pub(crate) fn pivot(
     ensures short { IsShort (store_of short.new) }
     ensures value { table_of (store_of short.new) ≡ next_form (table_of (store_of short.old)) row entering }
     ensures width { short.new.width ≡ short.old.width }
+    ensures pairs { (store_of short.new).pairs ≡ (store_of short.old).pairs }
 {
     let basic = short.basics[row];
     unpair(short, basic);

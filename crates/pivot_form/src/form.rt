@@ -1,12 +1,16 @@
 // Forms, the first of them, and their pivots.
-ghost use Rattle.std.specs.Prelude.{◌≡◌, ◌≢◌, ◌<◌, ◌+◌, ℕ, ℤ, pos, ◌↔◌, ◌<ℤ◌, unsigned_abs, length, MatchResult, IfOk, OnOk, Some, None, map, slice_index_or, ◌-◌, []};
-ghost use Rattle.std.specs.List.{All, range_with_len};
-ghost use Rattle.row_program.specs.Forms.{entry, right_side, basic_of, tableau, first_form, first_row, next_form, next_row, map_from, first_large_of, Holds, IsNonbasic, IsSolved, IsReduced};
-ghost use Rattle.pivot_form.specs.Invariant.{IsEquation, row_lists};
+ghost use Rattle.std.specs.Prelude.{◌≡◌, ◌≢◌, ◌<◌, ◌+◌, ℕ, ℤ, pos, ◌↔◌, length, MatchOption, MatchResult, IfOk, OnOk, IsTrue, Some, None, slice_index};
+ghost use Rattle.row_program.specs.Forms.{entry, right_side, basic_of, tableau, first_form, next_form, first_large_of, Holds, IsNonbasic, IsSolved, IsReduced};
+ghost use Rattle.pivot_form.specs.Kept.{table_of, variables_of};
+ghost use Rattle.pivot_form.specs.Shorts.{AreSumsUpTo, IsShort, store_of};
 
-use crate::first::{cost_row, first_basics, slack_row};
-use crate::rows::{renew, turn};
-use exact_num::WIDE;
+use crate::exchanges::{pivot, unpair};
+use crate::narrow::surely_narrow;
+use crate::pairs::most_sum;
+use crate::places::Place;
+use crate::short::Short;
+use crate::start::first_short;
+use crate::whole_rows::first_large;
 use mov_base::Memory;
 use row_program::Program;
 use std::alloc::Global;
@@ -19,30 +23,37 @@ pub struct Wide {
     pub size: u128,
 }
 
-/// Equations with whole entries, each solved for its basic variable.
+/// Equations with whole entries, each solved for its basic variable. What says nothing isn't kept: the entries of basic
+/// variables, and the equations of two variables that always add up to the same number.
 #[derive(Debug, Drop)]
 pub struct Form {
-    rows: Vec<Vec<i64>>,
-    basics: Vec<usize>,
+    short: Short,
+    most_sum: u64,
     lead: Vec<i64>,
     scratch: Vec<i128>,
+    whole_lead: Vec<i64>,
+    whole_row: Vec<i64>,
+    whole_scratch: Vec<i128>,
 }
 
 impl Model for Form {
-    ghost use Rattle.std.specs.Prelude.{◌≡◌, ◌<◌, ◌-◌, length};
+    ghost use Rattle.std.specs.Prelude.{◌≡◌, ◌+◌, length};
     ghost use Rattle.row_program.specs.Forms.{Table};
-    ghost use Rattle.pivot_form.specs.Invariant.{IsForm, row_lists};
+    ghost use Rattle.pivot_form.specs.Kept.{table_of, variables_of};
+    ghost use Rattle.pivot_form.specs.Shorts.{AreSumsUpTo, IsShort, store_of};
 
     ghost Value = { Table };
 
-    ghost view = { λ f.
-        record { variables = length f.lead.items - 1; rows = row_lists f.rows.items; basis = f.basics.items } };
+    ghost view = { λ f. table_of (store_of f.short) };
 
     ghost invariant = { λ f.
-        (0 < length f.lead.items)
-        × (length f.scratch.items ≡ length f.lead.items)
-        × IsForm
-        (record { variables = length f.lead.items - 1; rows = row_lists f.rows.items; basis = f.basics.items }) };
+        IsShort (store_of f.short)
+        × AreSumsUpTo f.most_sum f.short.pairs.items
+        × (length f.lead.items ≡ f.short.width + 2)
+        × (length f.scratch.items ≡ f.short.width + 2)
+        × (length f.whole_lead.items ≡ variables_of (store_of f.short) + 1)
+        × (length f.whole_row.items ≡ variables_of (store_of f.short) + 1)
+        × (length f.whole_scratch.items ≡ variables_of (store_of f.short) + 1) };
 }
 
 impl Form {
@@ -53,18 +64,18 @@ impl Form {
         ensures reduced { IfOk result IsReduced }
         ensures narrow { IfOk result (λ form. first_large_of form.rows ≡ None) }
     {
-        let variables = program.costs.len();
-        let rows = program.rows.len();
-        let width = 2 + variables + rows;
-        let rows = first_rows(alloc, program)?;
-        let basics = first_basics(alloc, variables, program.rows.len())?;
-        let lead = vec![in alloc; 0; width]?;
-        let scratch = vec![in alloc; 0; width]?;
+        let short = first_short(alloc, program)?;
+        let most_sum = most_sum(short.pairs.as_slice());
+        let width = short.width + 2;
+        let whole = short.places.len() + 1;
         Ok(Form {
-            rows,
-            basics,
-            lead,
-            scratch,
+            short,
+            most_sum,
+            lead: vec![in alloc; 0; width]?,
+            scratch: vec![in alloc; 0; width]?,
+            whole_lead: vec![in alloc; 0; whole]?,
+            whole_row: vec![in alloc; 0; whole]?,
+            whole_scratch: vec![in alloc; 0; whole]?,
         })
     }
 
@@ -72,14 +83,14 @@ impl Form {
     pub fn row_count(&self) -> usize
         ensures { result ≡ length self.now.rows }
     {
-        self.rows.len()
+        self.short.row_count()
     }
 
     /// How many variables the form has.
     pub fn variable_count(&self) -> usize
         ensures { result ≡ self.now.variables }
     {
-        self.lead.len() - 1
+        self.short.places.len()
     }
 
     /// The basic variable of the equation in the row.
@@ -87,7 +98,7 @@ impl Form {
         requires { row < length self.now.rows }
         ensures { result ≡ basic_of self.now row }
     {
-        self.basics[row]
+        self.short.basic(row)
     }
 
     /// The entry of the variable with the column's number in the row.
@@ -96,7 +107,7 @@ impl Form {
         requires column { column < self.now.variables }
         ensures { result ≡ entry self.now row column }
     {
-        self.rows[row][column]
+        self.short.entry(self.short.basic(row), column)
     }
 
     /// The right side of the row.
@@ -104,7 +115,7 @@ impl Form {
         requires { row < length self.now.rows }
         ensures { result ≡ right_side self.now row }
     {
-        self.rows[row][self.lead.len() - 1]
+        self.short.right(self.short.basic(row))
     }
 
     /// The next form: the variable of the column becomes basic in the row. Where an entry of it would be large, the answer
@@ -123,56 +134,74 @@ impl Form {
         ensures solved { IsSolved (tableau (next_form self row column)) }
         ensures reduced { IsReduced (next_form self row column) }
     {
-        turn(self.lead.as_mut_slice(), self.rows[row].as_slice(), column);
-        clear_rows(
-            self.rows.as_mut_slice(),
+        let basic = self.short.basic(row);
+        unpair(&mut self.short, basic);
+        let large = find_large(
+            &self.short,
             row,
             column,
-            self.lead.as_slice(),
+            self.most_sum,
+            self.whole_lead.as_mut_slice(),
+            self.whole_row.as_mut_slice(),
+            self.whole_scratch.as_mut_slice(),
+        );
+        if let Some(size) = large {
+            return Err(Wide { size });
+        }
+        pivot(
+            &mut self.short,
+            row,
+            column,
+            self.lead.as_mut_slice(),
             self.scratch.as_mut_slice(),
-        )?;
-        self.basics[row] = column;
+        );
         Ok(self)
     }
 }
 
-/// The equations of the first form.
-fn first_rows(alloc: Global, program: &Program) -> Result<Vec<Vec<i64>>, Memory>
-    ensures { IfOk result (λ rows.
-        row_lists rows.items ≡ map (first_row program.now) (range_with_len 0 (length program.now.rows + 1))) }
+/// Whether a bound on the entries shows that the next form is narrow.
+fn is_shown_narrow(short: &Short, row: usize, entering: usize, most_sum: u64) -> bool
+    requires short { IsShort (store_of short.now) }
+    requires sums { AreSumsUpTo most_sum (store_of short.now).pairs }
+    requires row { row < length (store_of short.now).basis }
+    requires entering { entering < variables_of (store_of short.now) }
+    requires nonzero { entry (table_of (store_of short.now)) row entering ≢ pos 0 }
+    ensures { IsTrue result
+        → first_large_of (next_form (table_of (store_of short.now)) row entering).rows ≡ None }
 {
-    let variables = program.costs.len();
-    let count = program.rows.len();
-    let mut rows = Vec::with_capacity(alloc, count + 1)?;
-    rows.push(cost_row(alloc, program.costs.as_slice(), 2 + variables + count)?)?;
-    for (i, row) in program.rows.as_slice().iter().enumerate() {
-        rows.push(slack_row(alloc, row, variables, count, i)?)?;
+    match (short.places[short.basic(row)], short.places[entering]) {
+        (Place::Kept(slot), Place::Column(column)) => surely_narrow(
+            short, slot, row, entering, column, most_sum,
+        ),
+        _ => false,
     }
-    Ok(rows)
 }
 
-/// Puts the lead in its place, and clears every other row in the column by it.
-fn clear_rows(
-    rows: &mut [Vec<i64>],
-    place: usize,
-    column: usize,
-    lead: &[i64],
+/// The size of the first large entry of the next form, if it has one.
+fn find_large(
+    short: &Short,
+    row: usize,
+    entering: usize,
+    most_sum: u64,
+    lead: &mut [i64],
+    whole: &mut [i64],
     scratch: &mut [i128],
-) -> Result<(), Wide>
-    requires within { column + 1 < length lead.now }
-    requires same_scratch { length scratch.old ≡ length lead.now }
-    requires equations { (k : ℕ) → k < length rows.old →
-        IsEquation (length lead.now - 1) (slice_index_or (row_lists rows.old) k []) }
-    requires small_lead { All (λ x. unsigned_abs x < WIDE) lead.now }
-    requires positive { pos 0 <ℤ slice_index_or lead.now column (pos 0) }
-    ensures value { MatchResult result
-        (λ _. row_lists rows.new ≡ map_from (next_row place column lead.now) 0 (row_lists rows.old))
-        (λ e. first_large_of (map_from (next_row place column lead.now) 0 (row_lists rows.old)) ≡ Some e.size) }
-    ensures narrow { OnOk result
-        (first_large_of (map_from (next_row place column lead.now) 0 (row_lists rows.old)) ≡ None) }
+) -> Option<u128>
+    requires short { IsShort (store_of short.now) }
+    requires sums { AreSumsUpTo most_sum (store_of short.now).pairs }
+    requires row { row < length (store_of short.now).basis }
+    requires entering { entering < variables_of (store_of short.now) }
+    requires nonzero { entry (table_of (store_of short.now)) row entering ≢ pos 0 }
+    requires wide_lead { length lead.old ≡ variables_of (store_of short.now) + 1 }
+    requires wide_whole { length whole.old ≡ variables_of (store_of short.now) + 1 }
+    requires wide_scratch { length scratch.old ≡ variables_of (store_of short.now) + 1 }
+    ensures { MatchOption result
+        (first_large_of (next_form (table_of (store_of short.now)) row entering).rows ≡ None)
+        (λ size. first_large_of (next_form (table_of (store_of short.now)) row entering).rows ≡ Some size) }
 {
-    for (i, row) in rows.iter_mut().enumerate() {
-        renew(row.as_mut_slice(), i == place, lead, column, scratch)?;
+    if is_shown_narrow(short, row, entering, most_sum) {
+        None
+    } else {
+        first_large(short, row, entering, lead, whole, scratch)
     }
-    Ok(())
 }

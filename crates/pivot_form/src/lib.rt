@@ -8,12 +8,13 @@
 
 mod clearing;
 mod exchanges;
-mod first;
 mod form;
 mod narrow;
+mod pairs;
 mod places;
 mod rows;
 mod short;
+mod start;
 mod whole_rows;
 
 pub use form::{Form, Wide};

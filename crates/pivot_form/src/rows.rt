@@ -1,11 +1,10 @@
 // One equation at a pivot.
-ghost use Rattle.std.specs.Prelude.{◌≡◌, ◌<◌, ℤ, pos, ◌<ℤ◌, ◌≢◌, unsigned_abs, length, MatchResult, Some, None, slice_index_or, if◌then◌else◌, map};
+ghost use Rattle.std.specs.Prelude.{◌≡◌, ◌<◌, ℤ, pos, ◌<ℤ◌, ◌≢◌, unsigned_abs, length, slice_index_or, map};
 ghost use Rattle.std.specs.List.{All};
 ghost use lib.IntN.{neg_ℤ};
-ghost use Rattle.exact_num.specs.Divisors.{IsPrimitive, primitive};
+ghost use Rattle.exact_num.specs.Divisors.{primitive};
 ghost use Rattle.row_program.specs.Forms.{combination, eliminated, first_large, turned};
 
-use crate::Wide;
 use exact_num::{Ratio, WIDE, cross, reduce_row};
 
 /// Writes p times the row less q times the lead.
@@ -75,59 +74,6 @@ pub(crate) fn clear(out: &mut [i128], row: &[i64], lead: &[i64], column: usize)
     ensures { out.new ≡ eliminated column row.now lead.now }
 {
     clear_by(out, lead[column], row, row[column], lead);
-}
-
-/// Clears the row in the column by the lead.
-fn eliminate(row: &mut [i64], lead: &[i64], column: usize, scratch: &mut [i128]) -> Result<(), Wide>
-    requires same_lead { length lead.now ≡ length row.old }
-    requires same_scratch { length scratch.old ≡ length row.old }
-    requires within { column < length row.old }
-    requires small_row { All (λ x. unsigned_abs x < WIDE) row.old }
-    requires small_lead { All (λ x. unsigned_abs x < WIDE) lead.now }
-    requires positive { pos 0 <ℤ slice_index_or lead.now column (pos 0) }
-    ensures value { MatchResult result
-        (λ _. (row.new ≡ eliminated column row.old lead.now)
-        × (first_large (eliminated column row.old lead.now) ≡ None))
-        (λ e. first_large (eliminated column row.old lead.now) ≡ Some e.size) }
-{
-    clear(scratch, row, lead, column);
-    match find_large(scratch) {
-        Some(size) => Err(Wide { size }),
-        None => {
-            store(row, scratch);
-            Ok(())
-        }
-    }
-}
-
-/// Puts the lead in the pivot's row, and clears another in the column by it. A row that is cleared already stays.
-pub(crate) fn renew(
-    row: &mut [i64],
-    at_place: bool,
-    lead: &[i64],
-    column: usize,
-    scratch: &mut [i128],
-) -> Result<(), Wide>
-    requires same_lead { length lead.now ≡ length row.old }
-    requires same_scratch { length scratch.old ≡ length row.old }
-    requires within { column < length row.old }
-    requires small_row { All (λ x. unsigned_abs x < WIDE) row.old }
-    requires small_lead { All (λ x. unsigned_abs x < WIDE) lead.now }
-    requires primitive { IsPrimitive row.old }
-    requires positive { pos 0 <ℤ slice_index_or lead.now column (pos 0) }
-    ensures value { MatchResult result
-        (λ _. (row.new ≡ (if at_place then lead.now else eliminated column row.old lead.now))
-        × (first_large (if at_place then lead.now else eliminated column row.old lead.now) ≡ None))
-        (λ e. first_large (if at_place then lead.now else eliminated column row.old lead.now) ≡ Some e.size) }
-{
-    if at_place {
-        row.copy_from_slice(lead);
-        Ok(())
-    } else if row[column] == 0 {
-        Ok(())
-    } else {
-        eliminate(row, lead, column, scratch)
-    }
 }
 
 /// Copies the row, turned so that its entry in the column is positive.

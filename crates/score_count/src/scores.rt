@@ -36,28 +36,29 @@ pub fn borda(alloc: Global, roll: &Roll) -> Result<ScoreList, Memory>
 }
 
 /// Adds to each candidate's number the points that the ballots give it.
-#[tactic(auto, using(crate::proofs::Points::borda_more, crate::proofs::Points::borda_few))]
+#[tactic(auto, using(crate::proofs::Points::borda_of_run))]
 fn add_places(roll: &Roll, scores: &mut [u64])
     requires size { length scores.old ≡ roll.now.c }
     requires none { EachIndex scores.old (λ x. slice_index scores.old x ≡ 0) }
     ensures { EachIndex scores.new (λ x. slice_index scores.new x ≡ score_of (borda_points roll.now.c) roll.now.ballots x) }
 {
     let c = roll.candidates();
-    for i in 0..roll.len() {
-        give_by_place(c, roll.row(i), scores);
+    for run in roll.runs() {
+        give_by_place(c, run.row, run.count, scores);
     }
 }
 
-/// Gives each candidate of the ballot the points of its place.
-#[tactic(auto, using(crate::proofs::Places::borda_place, crate::proofs::Points::borda_few))]
-fn give_by_place(c: u8, row: &[Cand], scores: &mut [u64])
+/// Gives each candidate of so many equal ballots the points of its place.
+#[tactic(auto, using(crate::proofs::Places::borda_place_times, crate::proofs::Points::borda_times_few))]
+fn give_by_place(c: u8, row: &[Cand], count: u32, scores: &mut [u64])
     requires valid { IsValidBallot c row.now }
     requires size { length scores.old ≡ c }
-    requires room { EachIndex scores.old (λ x. slice_index scores.old x + 2 * c < 2 ^ 64) }
-    ensures { EachIndex scores.new (λ x. slice_index scores.new x ≡ slice_index scores.old x + borda_points c row.now x) }
+    requires room { EachIndex scores.old (λ x. slice_index scores.old x + 2 * (count * c) < 2 ^ 64) }
+    ensures { EachIndex scores.new (λ x. slice_index scores.new x
+        ≡ slice_index scores.old x + count * borda_points c row.now x) }
 {
     for (i, x) in row.iter().enumerate() {
-        award(scores, *x, (c as usize - (i + 1)) as u64);
+        award(scores, *x, u64::from(count) * (c as usize - (i + 1)) as u64);
     }
 }
 

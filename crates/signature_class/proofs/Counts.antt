@@ -1,5 +1,5 @@
 -- One item more, and the classes after it.
-use Rattle.std.proofs.Common.{ℕ, zero, suc, List, [], ◌∷◌, ◌++◌, Some, None, Bool, true, false, ◌≡◌, ◌≢◌, ◌<◌, ◌≤◌, ◌+◌, ◌*◌, ◌∙◌, ◌⊎◌, take, map, length, slice_get, arith, ap, sym, refl, subst, inl, inr, All}
+use Rattle.std.proofs.Common.{ℕ, zero, suc, List, [], ◌∷◌, ◌++◌, Some, None, Bool, true, false, ◌≡◌, ◌≢◌, ◌≤◌, ◌+◌, ◌*◌, ◌∙◌, ◌⊎◌, map, length, replicate, arith, ap, sym, refl, subst, inl, inr, All}
 use Rattle.std.specs.Prelude.{Contains, AllPairs, nat_eq, unwrap_or}
 use Rattle.std.specs.Bool.{Decides}
 use Rattle.std.specs.Borrow.{Bor}
@@ -7,15 +7,16 @@ use Rattle.std.specs.Str.{bytes_eq}
 use Rattle.std.specs.Map.{lookup, set_value}
 use Rattle.std.proofs.lemmas.Bool.{cases_lt}
 use Rattle.std.proofs.lemmas.Bool.Decides.{Decides-eqb}
-use Rattle.std.proofs.lemmas.List.{length-take-le, take_more, append-nil, append_assoc, map-append, length-append, get_or_append_left, get_or_at}
+use Rattle.std.proofs.lemmas.List.{append-nil, append_assoc, map-append, length-append, length-map, get_or_append_left, get_or_at}
 use Rattle.std.proofs.lemmas.List.Elements.{Contains-append_left, Contains-append_right, Contains-push, Contains-push_cases, Contains-get_or}
-use Rattle.std.proofs.lemmas.Option.{get_or_from_slice_get, slice_get_within}
 use Rattle.std.proofs.lemmas.Slice.Eq.{bytes_eq-Decides}
 use Rattle.indexmap.specs.IndexMap.{insert_entry}
 use Rattle.ballot_form.specs.declared.limits.TheConstants.{MOST_BALLOTS}
+use Rattle.ballot_form.specs.declared.runs.Run.{Run}
+use Rattle.ballot_form.specs.Runs.{IsFirstRun, Left}
 use Rattle.mov_base.specs.Sums.{add_up}
 use Rattle.mov_base.proofs.Sums.{add_up-append, add_up-le}
-use Rattle.signature_class.specs.Classes.{AreClasses, IsClassList, IsSeenBefore, add_all, add_class, classes_of, count_of, keys_of, seen}
+use Rattle.signature_class.specs.Classes.{AreClasses, IsClassList, IsSeenBefore, add_all, add_class, classes_of, count_of, first_part, keys_of, seen}
 
 -- a list with one more at the end
 pub pairs_push : {X : Type 0} (R : X → X → Type 0) (xs : List X) (x : X) → AllPairs R xs → All (λ y. R y x) xs → AllPairs R (xs ++ x ∷ [])
@@ -160,12 +161,6 @@ pub add_all-append : {X : Type 0} (same : X → X → Bool) (cs first second : L
 add_all-append same cs [] second = refl
 add_all-append same cs (a ∷ first) second = add_all-append same (add_class same a.0 a.1 cs) first second
 
--- one item more
-pub classes_of-push : {X : Type 0} (same : X → X → Bool) (xs : List X) (x : X) → classes_of same (xs ++ x ∷ []) ≡ add_class same x 1 (classes_of same xs)
-classes_of-push {X} same xs x =
-    let one : X → X × ℕ = λ y. (y, 1) in
-    rw (map-append one xs (x ∷ [])) (add_all-append same [] (map one xs) ((x, 1) ∷ []))
-
 pub are_classes_from : {X : Type 0} (same : X → X → Bool) (decides : (a b : X) → Decides (same a b) (a ≡ b)) (done xs : List X) (cs : List (X × ℕ))
     → AreClasses done cs → AreClasses (done ++ xs) (add_all same cs (map (λ x. (x, 1)) xs))
 are_classes_from same decides done [] cs are = rw (append-nil done) are
@@ -181,20 +176,6 @@ kinds_are_classes rows = are_classes bytes_eq bytes_eq-Decides rows
 
 pub keys_are_classes : (keys : List ℕ) → AreClasses keys (classes_of nat_eq keys)
 keys_are_classes keys = are_classes nat_eq Decides-eqb keys
-
-pub kinds_more : (rows : List (List ℕ)) (i : ℕ) (row : List ℕ) (cs : List (List ℕ × ℕ)) → cs ≡ classes_of bytes_eq (take i rows) → slice_get rows i ≡ Some row
-    → add_class bytes_eq row 1 cs ≡ classes_of bytes_eq (take (i + 1) rows)
-kinds_more rows i row cs is at =
-    let within = slice_get_within rows i row at in
-    let here = get_or_from_slice_get rows i row row at in
-    rw (take_more rows i row within, here, is) (sym (classes_of-push bytes_eq (take i rows) row))
-
--- the part of a ballot, among the parts of all
-pub part_at : (part : List ℕ → List ℕ) (rows : List (List ℕ)) (i : ℕ) (row seen : List ℕ) → slice_get rows i ≡ Some row → seen ≡ part row
-    → slice_get (map part rows) i ≡ Some seen
-part_at part [] i row seen at is = absurd (cc)
-part_at part (r ∷ rows) zero row seen at is = grind (arith)
-part_at part (r ∷ rows) (suc i) row seen at is = part_at part rows i row seen at is
 
 -- the sum over the classes after all of these
 pub add_up-add_all : {X : Type 0} (same : X → X → Bool) (decides : (a b : X) → Decides (same a b) (a ≡ b)) (f : X → ℕ) (cs more : List (X × ℕ))
@@ -221,15 +202,6 @@ count_le same x (c ∷ cs) = elim (bool_of (same x c.0)) [
   | inl t ↦ rw t (omega arith)
   | inr e ↦ rw e (omega (arith, count_le same x cs))
 ]
-
-pub few_of_row : (rows : List (List ℕ)) (i : ℕ) (row : List ℕ) (cs : List (List ℕ × ℕ)) → cs ≡ classes_of bytes_eq (take i rows) → i < length rows → length rows ≤ MOST_BALLOTS
-    → count_of bytes_eq row cs + 1 ≤ MOST_BALLOTS
-few_of_row rows i row cs is within few =
-    let are : AreClasses (take i rows) cs = subst (AreClasses (take i rows)) (sym is) (kinds_are_classes (take i rows)) in
-    let a = are.counted (λ _. 1) in
-    let b = add_up-le (λ (_ : List ℕ). 1) 1 (take i rows) (λ x. omega arith) in
-    let l : length (take i rows) ≡ i = length-take-le i rows (omega arith) in
-    omega (arith, count_le bytes_eq row cs)
 
 -- ---- what the map does
 pub looked_up : {X : Type 0} (same : X → X → Bool) (x : X) (cs : List (X × ℕ)) → unwrap_or (lookup (same x) cs) 0 ≡ count_of same x cs
@@ -344,6 +316,65 @@ there_all same decides x n cs [] there = refl
 there_all same decides x n cs (a ∷ more) there =
     there_all same decides x n (add_class same a.0 a.1 cs) more (there_still same decides x a.0 a.1 cs there)
     ∙ ap (λ r. add_all same r more) (add_there same decides x a.0 n a.1 cs there)
+
+-- ---- a run of equal items
+
+-- each item once
+abbrev pub once : {X : Type 0} → List X → List (X × ℕ)
+once xs = map (λ x. (x, 1)) xs
+
+add_equal : {X : Type 0} (same : X → X → Bool) (decides : (a b : X) → Decides (same a b) (a ≡ b)) (x : X) (n : ℕ) (later : List X) (cs : List (X × ℕ))
+    → add_all same cs (once (replicate (suc n) x ++ later)) ≡ add_all same (add_class same x (suc n) cs) (once later)
+add_equal same decides x zero later cs = refl
+add_equal same decides x (suc n) later cs =
+    let e : 1 + suc n ≡ suc (suc n) = omega arith in
+    add_equal same decides x n later (add_class same x 1 cs)
+    ∙ ap (λ r. add_all same r (once later)) (add_twice same decides x 1 (suc n) cs ∙ ap (λ k. add_class same x k cs) e)
+
+add_some : (row : List ℕ) (n : ℕ) (later : List (List ℕ)) (cs : List (List ℕ × ℕ)) → 1 ≤ n
+    → add_all bytes_eq (add_class bytes_eq row n cs) (once later) ≡ add_all bytes_eq cs (once (replicate n row ++ later))
+add_some row zero later cs some = absurd (omega (arith, some))
+add_some row (suc n) later cs some = sym (add_equal bytes_eq bytes_eq-Decides row n later cs)
+
+-- the kinds after a run, and the ballots that are left then
+pub kinds_of_run : (old : Left) (run : Run) (new : Left) (cs : List (List ℕ × ℕ)) → IsFirstRun old run new
+    → add_all bytes_eq (add_class bytes_eq run.row.now run.count cs) (once new.ballots) ≡ add_all bytes_eq cs (once old.ballots)
+kinds_of_run old run new cs is =
+    add_some run.row.now run.count new.ballots cs is.some ∙ ap (λ rows. add_all bytes_eq cs (once rows)) (sym is.joined)
+
+pub map_equal : {X Y : Type 0} (f : X → Y) (n : ℕ) (x : X) (later : List X) → map f (replicate n x ++ later) ≡ replicate n (f x) ++ map f later
+map_equal f zero x later = refl
+map_equal f (suc n) x later = ap (λ ys. f x ∷ ys) (map_equal f n x later)
+
+pub firsts_of_run : (old : Left) (run : Run) (new : Left) (cs : List (List ℕ × ℕ)) → IsFirstRun old run new
+    → add_all bytes_eq (add_class bytes_eq (first_part run.row.now) run.count cs) (once (map first_part new.ballots)) ≡ add_all bytes_eq cs (once (map first_part old.ballots))
+firsts_of_run old run new cs is =
+    add_some (first_part run.row.now) run.count (map first_part new.ballots) cs is.some
+    ∙ ap (λ rows. add_all bytes_eq cs (once rows)) (sym (ap (map first_part) is.joined ∙ map_equal first_part run.count run.row.now new.ballots))
+
+-- the classes of few ballots have room for those of a run
+few_at : (row : List ℕ) (n : ℕ) (cs : List (List ℕ × ℕ)) (later rows : List (List ℕ)) → add_all bytes_eq (add_class bytes_eq row n cs) (once later) ≡ classes_of bytes_eq rows
+    → length rows ≤ MOST_BALLOTS → count_of bytes_eq row cs + n ≤ MOST_BALLOTS
+few_at row n cs later rows is few =
+    let all = (kinds_are_classes rows).counted (λ _. 1) in
+    let rows_few = add_up-le (λ (_ : List ℕ). 1) 1 rows (λ x. omega arith) in
+    let then = add_up-add_all bytes_eq bytes_eq-Decides (λ _. 1) (add_class bytes_eq row n cs) (once later) in
+    let now = add_up-add_class bytes_eq bytes_eq-Decides (λ _. 1) row n cs in
+    let same = ap (add_up (λ c. c.1 * 1)) is in
+    omega (arith, all, rows_few, then, now, same, count_le bytes_eq row cs)
+
+pub room_of_run : (old : Left) (run : Run) (new : Left) (cs : List (List ℕ × ℕ)) (rows : List (List ℕ)) → IsFirstRun old run new
+    → add_all bytes_eq cs (once old.ballots) ≡ classes_of bytes_eq rows → length rows ≤ MOST_BALLOTS → count_of bytes_eq run.row.now cs + run.count ≤ MOST_BALLOTS
+room_of_run old run new cs rows is counted few = few_at run.row.now run.count cs new.ballots rows (kinds_of_run old run new cs is ∙ counted) few
+
+pub room_of_firsts : (old : Left) (run : Run) (new : Left) (cs : List (List ℕ × ℕ)) (rows : List (List ℕ)) → IsFirstRun old run new
+    → add_all bytes_eq cs (once (map first_part old.ballots)) ≡ classes_of bytes_eq (map first_part rows) → length rows ≤ MOST_BALLOTS
+    → count_of bytes_eq (first_part run.row.now) cs + run.count ≤ MOST_BALLOTS
+room_of_firsts old run new cs rows is counted few =
+    let size = length-map rows first_part in
+    few_at (first_part run.row.now) run.count cs (map first_part new.ballots) (map first_part rows) (firsts_of_run old run new cs is ∙ counted) (omega (arith, size, few))
+
+-- ---- the classes of classes
 
 -- the classes of classes by a key of their keys
 abbrev pub regrouped : {X : Type 0} → (X → ℕ) → List (X × ℕ) → List (ℕ × ℕ)

@@ -38,17 +38,18 @@ impl<'a> Kinds<'a> {
         }
     }
 
-    /// Counts a ballot.
+    /// Counts so many more of this ballot. A new kind stands last.
     #[tactic(auto, using(crate::proofs::Counts::still_kinds))]
-    pub(crate) fn add(&mut self, row: &'a [Cand]) -> Result<(), Memory>
-        requires few { count_of bytes_eq row.now self.old + 1 ≤ MOST_BALLOTS }
-        ensures added { OnOk result (self.new ≡ add_class bytes_eq row.now 1 self.old) }
+    pub(crate) fn add_times(&mut self, row: &'a [Cand], count: u32) -> Result<(), Memory>
+        requires some { 1 ≤ count }
+        requires few { count_of bytes_eq row.now self.old + count ≤ MOST_BALLOTS }
+        ensures added { OnOk result (self.new ≡ add_class bytes_eq row.now count self.old) }
         ensures unchanged { OnErr result (self.new ≡ self.old) }
     {
         match self.counts.get_mut(row) {
-            Some(known) => *known += 1,
+            Some(known) => *known += count,
             None => {
-                self.counts.insert(row, 1)?;
+                self.counts.insert(row, count)?;
             }
         }
         Ok(())

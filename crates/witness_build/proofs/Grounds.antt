@@ -1,5 +1,5 @@
 -- Of the ground of a goal: the greatest gain, what is lacking, and how many ballots have each gain.
-use Rattle.std.proofs.Common.{ℕ, zero, suc, List, [], ◌∷◌, ◌≡◌, ◌<◌, ◌≤◌, ◌+◌, ◌-◌, ◌∙◌, length, map, nat_abs, slice_get, Some, FitsSigned, w64, to_z, of_z, sym, ap, refl, subst, arith, rules}
+use Rattle.std.proofs.Common.{ℕ, List, [], ◌∷◌, ◌++◌, ◌≡◌, ◌<◌, ◌≤◌, ◌+◌, ◌-◌, ◌∙◌, length, map, replicate, nat_abs, slice_get, Some, FitsSigned, w64, to_z, of_z, sym, ap, refl, subst, arith, rules}
 use Rattle.std.specs.Prelude.{nat_eq, slice_index, ℤ, pos, negsuc, ◌-ℤ◌}
 use Rattle.std.proofs.lemmas.Bool.Decides.{nat_tests}
 use Rattle.std.proofs.lemmas.Int.{ints, to_z-of_z}
@@ -8,10 +8,13 @@ use Rattle.mov_base.specs.Sums.{add_up, sum_z}
 use Rattle.mov_base.proofs.Signed.{sum_z-difference}
 use Rattle.mov_base.proofs.Sums.{add_up-le}
 use Rattle.ballot_form.specs.declared.limits.TheConstants.{MOST_BALLOTS}
+use Rattle.ballot_form.specs.declared.runs.Run.{Run}
+use Rattle.ballot_form.specs.Runs.{IsFirstRun, Left}
 use Rattle.signature_class.specs.Classes.{classes_of}
-use Rattle.signature_class.proofs.Counts.{keys_are_classes, sum-times_one}
+use Rattle.signature_class.proofs.Counts.{keys_are_classes, map_equal, sum-times_one}
 use Rattle.goal_rows.specs.Elections.{Election}
 use Rattle.goal_rows.specs.Goals.{IsElection, IsReached, gainer_points, loser_points, rows_of}
+use Rattle.goal_rows.specs.Pairs.{gain_of}
 use Rattle.goal_rows.specs.Races.{IsGroundIn, key_of, keys_of, lone_weight}
 use Rattle.goal_rows.specs.declared.goals.Goal.{Goal}
 use Rattle.goal_rows.specs.declared.goals.Goal.TheVariants.{Root, Pair}
@@ -146,33 +149,32 @@ pub below_first : (sum : ℤ) (sums : List ℤ) → Some sum ≡ slice_get sums 
 below_first sum [] is = cc
 below_first sum (z ∷ zs) is = let same : z ≡ sum = cc in ap below_zero same
 
--- ---- one ballot
+-- ---- a run of equal ballots
 
--- the gain of the ballot at a place, by its key
-pub record IsGained (e : Election) (goal : Goal) (i key greatest : ℕ) : Type 0 where
+-- the gains of these ballots
+abbrev pub gains_of : Election → Goal → List (List ℕ) → List ℕ
+gains_of e goal ballots = gains_under (record e { poll = record e.poll { ballots = ballots } }) goal
+
+-- the gain of each ballot of the run that the old ballots begin with, by its key
+pub record IsGained (e : Election) (goal : Goal) (key greatest count : ℕ) (old new : List (List ℕ)) : Type 0 where
   pub below : key ≤ greatest
-  pub within : i < length (gains_under e goal)
-  pub gain : greatest - key ≡ slice_index (gains_under e goal) i
+  pub gains : gains_of e goal old ≡ replicate count (greatest - key) ++ gains_of e goal new
 
-gain_at : (f : List ℕ → ℕ) (ballots : List (List ℕ)) (i : ℕ) (row : List ℕ) → slice_get ballots i ≡ Some row → (i < length (map f ballots)) × (slice_index (map f ballots) i ≡ f row)
-gain_at f [] i row at = absurd (cc)
-gain_at f (ballot ∷ ballots) zero row at = let same : ballot ≡ row = cc in (omega arith, ap f same)
-gain_at f (ballot ∷ ballots) (suc i) row at = let rest = gain_at f ballots i row at in (omega (arith, rest.0), rest.1)
-
-pub gained_at : (e : Election) (goal : Goal) (g l i key greatest : ℕ) (row : List ℕ) → IsElection e → IsReached e goal → goal ≡ Pair g l → slice_get e.poll.ballots i ≡ Some row
-    → key ≡ key_of e goal row → greatest ≡ greatest_under e goal → IsGained e goal i key greatest
-gained_at e Root g l i key greatest row election reached pair at key_is greatest_is = absurd (cc)
-gained_at e (Pair h m) g l i key greatest row election reached pair at key_is greatest_is =
+pub gained_by_run : (e : Election) (goal : Goal) (g l key greatest : ℕ) (old : Left) (run : Run) (new : Left) → IsElection e → IsReached e goal → goal ≡ Pair g l
+    → IsFirstRun old run new → key ≡ key_of e goal run.row.now → greatest ≡ greatest_under e goal → IsGained e goal key greatest run.count old.ballots new.ballots
+gained_by_run e Root g l key greatest old run new election reached pair is key_is greatest_is = absurd (cc)
+gained_by_run e (Pair h m) g l key greatest old run new election reached pair is key_is greatest_is =
     let points = points_of e h m election reached in
+    let row = run.row.now in
     let low = points.low row in
     let high = points.high row in
-    let here = gain_at (λ ballot. (gainer_points e h m (h ∷ []) + loser_points e h m ballot) - gainer_points e h m ballot) e.poll.ballots i row at in
+    let gain = gain_of (gainer_points e h m (h ∷ [])) (gainer_points e h m) (loser_points e h m) in
+    let same : gain row ≡ greatest - key = omega (arith, key_is, greatest_is, low, high) in
     record {
       below = omega (arith, key_is, greatest_is, high);
-      within = here.0;
-      gain = omega (arith, key_is, greatest_is, low, high, here.1);
+      gains = ap (map gain) is.joined ∙ map_equal gain run.count row new.ballots ∙ ap (λ n. replicate run.count n ++ map gain new.ballots) same;
     }
 
-pub length_under : (e : Election) (goal : Goal) (g l : ℕ) → goal ≡ Pair g l → length (gains_under e goal) ≡ length e.poll.ballots
-length_under e Root g l pair = absurd (cc)
-length_under e (Pair h m) g l pair = length-map e.poll.ballots _
+pub gains_of_none : (e : Election) (goal : Goal) → gains_of e goal [] ≡ []
+gains_of_none e Root = refl
+gains_of_none e (Pair g l) = refl

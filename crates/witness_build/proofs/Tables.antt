@@ -1,8 +1,8 @@
 -- A table of how many have each key, from the classes in turn.
-use Rattle.std.proofs.Common.{ℕ, zero, suc, Bool, true, false, cond, List, [], ◌∷◌, ◌≡◌, ◌≢◌, ◌<◌, ◌≤◌, ◌==◌, ◌+◌, ◌*◌, take, length, get_or, set, get_or-set_same, get_or-set_other, subst, inl, inr, arith}
+use Rattle.std.proofs.Common.{ℕ, zero, suc, Bool, true, false, cond, List, [], ◌∷◌, ◌≡◌, ◌≢◌, ◌<◌, ◌≤◌, ◌==◌, ◌+◌, ◌*◌, take, length, get_or, set, get_or-set_same, get_or-set_other, inl, inr, arith}
 use Rattle.std.proofs.lemmas.Bool.{cases_eq}
 use Rattle.std.proofs.lemmas.Bool.Decides.{nat_tests}
-use Rattle.std.proofs.lemmas.List.{take_all, take_more}
+use Rattle.std.proofs.lemmas.List.{take_more}
 use Rattle.mov_base.specs.Sums.{add_up}
 use Rattle.mov_base.proofs.Sums.{add_up-append}
 use Rattle.witness_build.specs.Levels.{equals, of_key}
@@ -68,7 +68,3 @@ pub tabled_passed : (end i key : ℕ) (classes : List (ℕ × ℕ)) (counts : Li
     → end ≤ key → IsTabled end i classes counts → IsTabled end (i + 1) classes counts
 tabled_passed end i key classes counts lt key_is past are k within =
     omega (arith, key_more k i classes lt, class_other k (get_or classes i (0, 0)) (λ e. omega (arith, e, key_is, past, within)), are k within)
-
-pub tabled_all : (end i : ℕ) (classes : List (ℕ × ℕ)) (counts : List ℕ) → length classes ≤ i → IsTabled end i classes counts
-    → (k : ℕ) → k < end → get_or counts k 0 ≡ add_up (of_key k) classes
-tabled_all end i classes counts past are k within = subst (λ cs. get_or counts k 0 ≡ add_up (of_key k) cs) (take_all i classes past) (are k within)

@@ -1,5 +1,6 @@
 // The ballots to replace.
-ghost use Rattle.std.specs.Prelude.{◌≡◌, ℕ, IfOk};
+ghost use Rattle.std.specs.Prelude.{◌≡◌, ◌++◌, ◌+◌, ◌<◌, ◌^◌, ℕ, IfOk, OnOk};
+ghost use Rattle.std.specs.List.{range_with_len};
 ghost use Rattle.goal_rows.specs.Races.{IsRace, election_of, IsGroundIn};
 ghost use Rattle.goal_rows.specs.declared.goals.Goal.TheVariants.{Pair};
 ghost use Rattle.witness_build.specs.Levels.{IsLevelUnder, first_from, gains_under};
@@ -14,7 +15,7 @@ use std::alloc::Global;
 pub(crate) type NumberList = List<u32>;
 
 /// The numbers of all ballots whose gain is above the level's, and of the first ones whose gain is that, ascending.
-/// They are found in one pass over the ballots, which ends with the last of them.
+/// They are found in one pass over the runs of equal ballots, which ends with the last of them.
 pub(crate) fn first_numbers(
     alloc: Global,
     race: &Race<'_>,
@@ -31,17 +32,30 @@ pub(crate) fn first_numbers(
     let greatest = greatest_gain(start);
     let mut equal = level.equal;
     let mut numbers = Vec::with_capacity(alloc, level.count as usize)?;
-    for i in 0..race.roll.len() {
+    for run in race.roll.runs() {
         if numbers.len() == level.count as usize {
             break;
         }
-        let gain = greatest - key(race, &start.goal, race.roll.row(i));
-        if gain > level.gain {
-            numbers.push(i + 1)?;
-        } else if gain == level.gain && equal > 0 {
-            equal -= 1;
-            numbers.push(i + 1)?;
-        }
+        let gain = greatest - key(race, &start.goal, run.row);
+        let count = if gain > level.gain {
+            run.count
+        } else if gain == level.gain {
+            let count = equal.min(run.count);
+            equal -= count;
+            count
+        } else {
+            0
+        };
+        push_numbers(&mut numbers, run.first, count)?;
     }
     Ok(List::from_vec(numbers))
+}
+
+/// Adds so many numbers in turn, from the first one on.
+fn push_numbers(numbers: &mut Vec<u32>, first: u32, count: u32) -> Result<(), Memory>
+    requires { first + count < 2 ^ 32 }
+    ensures { OnOk result (numbers.new.items ≡ numbers.old.items ++ range_with_len first count) }
+{
+    numbers.extend(first..first + count)?;
+    Ok(())
 }

@@ -4,8 +4,8 @@
 //! the ballot that ranks the gainer alone, of the ballots with the largest gains, lower numbers first at equal gains.
 //! `start_witness` answers those of the first root pair that the fewest bring level; where a search begins, this is
 //! what is known to turn the outcome. No alteration of fewer replacements, whatever their new ballots, meets a root
-//! pair. Gains are counted by classes of ballots, and the ballots to replace are found in one pass. The crate stands on
-//! the goals of `goal_rows` and the alterations of `alteration_model`.
+//! pair. Gains are counted by classes of ballots, and the ballots to replace are found in one pass over the runs of
+//! equal ballots. The crate stands on the goals of `goal_rows` and the alterations of `alteration_model`.
 #![tactic(auto)]
 
 mod chosen;

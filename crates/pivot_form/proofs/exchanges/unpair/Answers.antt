@@ -40,6 +40,7 @@ returns-in_default-index c =
       short = c.requires.short;
       same = refl;
       width = refl;
+      pairs = refl;
       basic = c.requires.basic;
       alone = stands_alone s c.args.basic c.in-Paired-Some.pair c.requires.short c.requires.basic.within paired pair other;
     }

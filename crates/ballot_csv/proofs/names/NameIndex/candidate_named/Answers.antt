@@ -1,10 +1,8 @@
-use Rattle.std.proofs.Common.{◌∙◌, sym}
-use Rattle.std.specs.Str.{bytes_eq}
-use Rattle.ballot_csv.proofs.NameFacts.{position_of_map}
+use Rattle.std.proofs.Common.{◌∙◌, Some, ap, sym}
+use Rattle.ballot_csv.proofs.NameFacts.{guess_right}
 use Rattle.ballot_csv.proofs.names.NameIndex.candidate_named.Goals as goal
 
 pub returns-in-Some-clause-candidate : goal.returns-in-Some-clause-candidate
-returns-in-Some-clause-candidate c = rw (← c.self.view_is) (sym c.in-Some.is ∙ c.get_index_of.ensures.index ∙ position_of_map (λ n. n.now) (bytes_eq c.args.name.now) c.self.inside.names.keys)
-
-pub returns-in-None-clause-candidate : goal.returns-in-None-clause-candidate
-returns-in-None-clause-candidate c = rw (← c.self.view_is) (sym c.in-None.is ∙ c.get_index_of.ensures.index ∙ position_of_map (λ n. n.now) (bytes_eq c.args.name.now) c.self.inside.names.keys)
+returns-in-Some-clause-candidate c =
+    let at = rw c.deref.ensures.value at c.in-Some.ensures.lookup in
+    rw (← c.self.view_is) (ap Some (sym c.from-2.ensures) ∙ sym (guess_right c.self.inside.names.items c.args.name.now c.in-Some.found.now c.from-2.result c.self.invariant.1 at.3.0 at.1 (sym c.eq.ensures ∙ c.if-eq.true)))

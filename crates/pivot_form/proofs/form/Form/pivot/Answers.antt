@@ -1,83 +1,62 @@
-use Rattle.std.proofs.Common.{arith, ap, sym, refl, ◌∙◌, subst, ◌≡◌, ◌-◌, length, get_or, set, [], Some, None}
-use Rattle.std.specs.Vec.{with_items}
+use Rattle.std.proofs.Common.{arith, ap, sym, ◌∙◌, subst, ◌≡◌, ℕ, ℤ, length, get_or, Some, None}
 use Rattle.std.proofs.lemmas.List.{with_items_is}
-use Rattle.std.proofs.lemmas.Result.{err_from_is_err_and}
-use Rattle.row_program.specs.Forms.{Table, next_form, next_row, map_from, first_large_of, turned}
-use Rattle.pivot_form.specs.Invariant.{IsForm, row_lists}
-use Rattle.pivot_form.proofs.Equations.{length-row_lists}
-use Rattle.pivot_form.proofs.NextForm.{make, make_same, next_rows_of, solutions_kept, solved_next, reduced_next, next_is_form}
+use Rattle.row_program.specs.Forms.{IsNonbasic, IsReduced, IsSolved, Table, next_form, tableau}
+use Rattle.pivot_form.specs.Invariant.{IsForm}
+use Rattle.pivot_form.specs.Kept.{table_of}
+use Rattle.pivot_form.specs.Shorts.{AreSumsUpTo, IsShort, store_of}
+use Rattle.pivot_form.proofs.NextForm.{reduced_next, solutions_kept, solved_next}
+use Rattle.pivot_form.proofs.Whole.{height}
+use Rattle.pivot_form.proofs.WholeRows.{basic_at, row_inside}
 use Rattle.pivot_form.proofs.form.Form.pivot.Goals as goal
 
-pub returns-in_err-clear_rows-clause-value : goal.returns-in_err-clear_rows-clause-value
-returns-in_err-clear_rows-clause-value c =
-    let inside = c.self.inside in
-    let rows = ap (λ (t : Table). length t.rows) c.self.view_is in
-    let same_width : length c.turn.new.lead ≡ inside.lead.len = omega (arith, c.turn.auto.lead, c.as_mut_slice.ensures.len) in
-    let made = next_rows_of inside.rows.items c.as_mut_slice-2.result.now c.index.result.now c.args.row c.args.column c.as_slice-2.result.now c.turn.new.lead c.as_slice.result.now
-    (omega (arith, rows, length-row_lists inside.rows.items, c.requires.row)) c.index.ensures c.as_slice.ensures.value c.turn.ensures.value (c.as_slice-2.ensures.value ∙ with_items_is inside.lead c.turn.new.lead same_width) c.as_mut_slice-2.ensures.value in
-    let some : first_large_of (next_form c.args.self c.args.row c.args.column).rows ≡ Some c.in_err-clear_rows.field-0.0.size
-    = sym (ap (λ (t : Table). first_large_of (next_form t c.args.row c.args.column).rows) c.self.view_is) ∙ sym (ap first_large_of made) ∙ c.in_err-clear_rows.ensures.value in
-    let q = err_from_is_err_and c.from_residual.result c.from_residual.ensures.1 in
-    rw (q.1, q.2) some
+pub unpair-requires-clause-basic : goal.unpair-requires-clause-basic
+unpair-requires-clause-basic c = rw c.basic-basic.ensures (basic_at (store_of c.self.inside.short) c.args.row c.self.invariant.0 (row_inside (store_of c.self.inside.short) c.args.self c.args.row c.self.view_is c.requires.row))
 
-pub returns-in_err-clear_rows-clause-solutions : goal.returns-in_err-clear_rows-clause-solutions
-returns-in_err-clear_rows-clause-solutions c = solutions_kept c.args.self c.args.row c.args.column (subst IsForm c.self.view_is c.self.invariant.2) c.requires.row c.requires.column c.requires.nonzero
+pub returns-in-Some-clause-solutions : goal.returns-in-Some-clause-solutions
+returns-in-Some-clause-solutions c = solutions_kept c.args.self c.args.row c.args.column (subst IsForm c.self.view_is c.self.invariant.0.form) c.requires.row c.requires.column c.requires.nonzero
 
-pub returns-in_err-clear_rows-clause-solved : goal.returns-in_err-clear_rows-clause-solved
-returns-in_err-clear_rows-clause-solved c = solved_next c.args.self c.args.row c.args.column (subst IsForm c.self.view_is c.self.invariant.2) c.requires.row c.requires.column c.requires.nonzero
+pub returns-in-Some-clause-solved : goal.returns-in-Some-clause-solved
+returns-in-Some-clause-solved c = solved_next c.args.self c.args.row c.args.column (subst IsForm c.self.view_is c.self.invariant.0.form) c.requires.row c.requires.column c.requires.nonzero
 
-pub returns-in_err-clear_rows-clause-reduced : goal.returns-in_err-clear_rows-clause-reduced
-returns-in_err-clear_rows-clause-reduced c = reduced_next c.args.self c.args.row c.args.column (subst IsForm c.self.view_is c.self.invariant.2) c.requires.row c.requires.column c.requires.nonzero
+pub returns-in-Some-clause-reduced : goal.returns-in-Some-clause-reduced
+returns-in-Some-clause-reduced c = reduced_next c.args.self c.args.row c.args.column (subst IsForm c.self.view_is c.self.invariant.0.form) c.requires.row c.requires.column c.requires.nonzero
+
+pub pivot-requires-clause-nonbasic : goal.pivot-requires-clause-nonbasic
+pivot-requires-clause-nonbasic c = subst (λ (t : Table). IsNonbasic (tableau t) c.args.column) (sym (c.unpair.ensures.same ∙ c.self.view_is)) c.requires.nonbasic
 
 pub returns-clause-solutions : goal.returns-clause-solutions
-returns-clause-solutions c = solutions_kept c.args.self c.args.row c.args.column (subst IsForm c.self.view_is c.self.invariant.2) c.requires.row c.requires.column c.requires.nonzero
+returns-clause-solutions c = solutions_kept c.args.self c.args.row c.args.column (subst IsForm c.self.view_is c.self.invariant.0.form) c.requires.row c.requires.column c.requires.nonzero
 
 pub returns-clause-solved : goal.returns-clause-solved
-returns-clause-solved c = solved_next c.args.self c.args.row c.args.column (subst IsForm c.self.view_is c.self.invariant.2) c.requires.row c.requires.column c.requires.nonzero
+returns-clause-solved c = solved_next c.args.self c.args.row c.args.column (subst IsForm c.self.view_is c.self.invariant.0.form) c.requires.row c.requires.column c.requires.nonzero
 
 pub returns-clause-reduced : goal.returns-clause-reduced
-returns-clause-reduced c = reduced_next c.args.self c.args.row c.args.column (subst IsForm c.self.view_is c.self.invariant.2) c.requires.row c.requires.column c.requires.nonzero
-
--- the rows as `clear_rows` leaves them
-rows_made : (c : goal.After-self-4-1) → map_from (next_row c.args.row c.args.column c.as_slice-2.result.now) 0 (row_lists c.as_mut_slice-2.result.now) ≡ map_from (next_row c.args.row c.args.column (turned c.args.column (get_or (row_lists c.self.inside.rows.items) c.args.row []))) 0 (row_lists c.self.inside.rows.items)
-rows_made c =
-    let inside = c.self.inside in
-    let rows = ap (λ (t : Table). length t.rows) c.self.view_is in
-    let same_width : length c.turn.new.lead ≡ inside.lead.len = omega (arith, c.turn.auto.lead, c.as_mut_slice.ensures.len) in
-    next_rows_of inside.rows.items c.as_mut_slice-2.result.now c.index.result.now c.args.row c.args.column c.as_slice-2.result.now c.turn.new.lead c.as_slice.result.now
-    (omega (arith, rows, length-row_lists inside.rows.items, c.requires.row)) c.index.ensures c.as_slice.ensures.value c.turn.ensures.value (c.as_slice-2.ensures.value ∙ with_items_is inside.lead c.turn.new.lead same_width) c.as_mut_slice-2.ensures.value
-
--- the vectors make the next form
-whole : (c : goal.After-self-4-1) → make (length (with_items c.self.inside.lead c.turn.new.lead).items - 1) (row_lists (with_items c.self.inside.rows c.clear_rows.new.rows).items) (set c.self.inside.basics.items c.args.row c.args.column) ≡ next_form c.args.self c.args.row c.args.column
-whole c =
-    let inside = c.self.inside in
-    let w : Table = make (length inside.lead.items - 1) (row_lists inside.rows.items) inside.basics.items in
-    let same_width : length c.turn.new.lead ≡ inside.lead.len = omega (arith, c.turn.auto.lead, c.as_mut_slice.ensures.len) in
-    let new_lead : (with_items inside.lead c.turn.new.lead).items ≡ c.turn.new.lead = with_items_is inside.lead c.turn.new.lead same_width in
-    let new_rows : (with_items inside.rows c.clear_rows.new.rows).items ≡ c.clear_rows.new.rows = with_items_is inside.rows c.clear_rows.new.rows (omega (arith, c.clear_rows.auto.rows, c.as_mut_slice-2.ensures.len)) in
-    make_same (length (with_items inside.lead c.turn.new.lead).items - 1) (length inside.lead.items - 1) (row_lists (with_items inside.rows c.clear_rows.new.rows).items) (next_form w c.args.row c.args.column).rows (set inside.basics.items c.args.row c.args.column) (set inside.basics.items c.args.row c.args.column)
-    (let e = ap length new_lead in omega (arith, e, same_width, inside.lead.ok.0))
-    (ap row_lists new_rows ∙ c.in_ok-clear_rows.ensures.value ∙ rows_made c)
-    refl
-    ∙ ap (λ (t : Table). next_form t c.args.row c.args.column) c.self.view_is
-
-pub returns-clause-value : goal.returns-clause-value
-returns-clause-value c = whole c
-
-none_large : (c : goal.After-self-4-1) → first_large_of (next_form c.args.self c.args.row c.args.column).rows ≡ None
-none_large c = sym (ap (λ (t : Table). first_large_of (next_form t c.args.row c.args.column).rows) c.self.view_is) ∙ sym (ap first_large_of (rows_made c)) ∙ c.in_ok-clear_rows.ensures.narrow
-
-pub returns-clause-narrow : goal.returns-clause-narrow
-returns-clause-narrow c = none_large c
+returns-clause-reduced c = reduced_next c.args.self c.args.row c.args.column (subst IsForm c.self.view_is c.self.invariant.0.form) c.requires.row c.requires.column c.requires.nonzero
 
 pub invariant_of-self : goal.invariant_of-self
 invariant_of-self c =
     let inside = c.self.inside in
-    let same_width : length c.turn.new.lead ≡ inside.lead.len = omega (arith, c.turn.auto.lead, c.as_mut_slice.ensures.len) in
-    let new_lead = ap length (with_items_is inside.lead c.turn.new.lead same_width) in
-    let same_scratch : length c.clear_rows.new.scratch ≡ inside.scratch.len = omega (arith, c.clear_rows.auto.scratch, c.as_mut_slice-3.ensures.len) in
-    let new_scratch = ap length (with_items_is inside.scratch c.clear_rows.new.scratch same_scratch) in (
-      omega (arith, new_lead, same_width, inside.lead.ok.0, c.self.invariant.0),
-      omega (arith, new_lead, new_scratch, same_width, same_scratch, inside.lead.ok.0, inside.scratch.ok.0, c.self.invariant.1),
-      subst IsForm (sym (whole c)) (next_is_form c.args.self c.args.row c.args.column (subst IsForm c.self.view_is c.self.invariant.2) c.requires.row c.requires.column c.requires.nonzero (none_large c)),
+    let lead = c.find_large-large.new.lead in
+    let whole = c.find_large-large.new.whole in
+    let scratch = c.find_large-large.new.scratch in
+    let width = c.pivot.ensures.width ∙ c.unpair.ensures.width in
+    let variables = ap (λ (t : Table). t.variables) c.pivot.ensures.value in
+    let same = ap (λ (t : Table). t.variables) c.unpair.ensures.same in
+    let lead_len : length c.pivot.new.lead ≡ inside.lead.len = omega (arith, c.pivot.auto.lead, c.as_mut_slice-4.ensures.len) in
+    let scratch_len : length c.pivot.new.scratch ≡ inside.scratch.len = omega (arith, c.pivot.auto.scratch, c.as_mut_slice-5.ensures.len) in
+    let whole_lead_len : length lead ≡ inside.whole_lead.len = omega (arith, c.find_large-large.auto.lead, c.as_mut_slice.ensures.len) in
+    let whole_row_len : length whole ≡ inside.whole_row.len = omega (arith, c.find_large-large.auto.whole, c.as_mut_slice-2.ensures.len) in
+    let whole_scratch_len : length scratch ≡ inside.whole_scratch.len = omega (arith, c.find_large-large.auto.scratch, c.as_mut_slice-3.ensures.len) in
+    let new_lead = ap length (with_items_is inside.lead c.pivot.new.lead lead_len) in
+    let new_scratch = ap length (with_items_is inside.scratch c.pivot.new.scratch scratch_len) in
+    let new_whole_lead = ap length (with_items_is inside.whole_lead lead whole_lead_len) in
+    let new_whole_row = ap length (with_items_is inside.whole_row whole whole_row_len) in
+    let new_whole_scratch = ap length (with_items_is inside.whole_scratch scratch whole_scratch_len) in (
+      c.pivot.ensures.short,
+      subst (AreSumsUpTo inside.most_sum) (sym (c.pivot.ensures.pairs ∙ c.unpair.ensures.pairs)) c.self.invariant.1,
+      omega (arith, new_lead, lead_len, inside.lead.ok.0, width, c.self.invariant.2),
+      omega (arith, new_scratch, scratch_len, inside.scratch.ok.0, width, c.self.invariant.3),
+      omega (arith, new_whole_lead, whole_lead_len, inside.whole_lead.ok.0, variables, same, c.self.invariant.4),
+      omega (arith, new_whole_row, whole_row_len, inside.whole_row.ok.0, variables, same, c.self.invariant.5),
+      omega (arith, new_whole_scratch, whole_scratch_len, inside.whole_scratch.ok.0, variables, same, c.self.invariant.6),
     )
