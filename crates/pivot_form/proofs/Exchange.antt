@@ -37,7 +37,7 @@ pub record IsLead (s : Store) (b j : ℕ) (sign : ℤ) (lead : List ℤ) : Type 
 
 -- ---- the moved lead and what is made with it
 module _ (w j : ℕ) (lead : List ℤ) (wide : length lead ≡ w + 2) (inside : j < w) where
-  moved_width : length (moved w j lead) ≡ w + 2
+  pub moved_width : length (moved w j lead) ≡ w + 2
   moved_width = length-set _ w (pos 0) ∙ length-set lead j _ ∙ wide
 
   moved_column : get_or (moved w j lead) j (pos 0) ≡ get_or lead w (pos 0)
@@ -52,17 +52,17 @@ module _ (w j : ℕ) (lead : List ℤ) (wide : length lead ≡ w + 2) (inside : 
   taken_width : length (taken w j lead) ≡ w + 2
   taken_width = length-set _ w _ ∙ moved_width
 
-  taken_own : get_or (taken w j lead) w (pos 0) ≡ get_or lead j (pos 0)
+  pub taken_own : get_or (taken w j lead) w (pos 0) ≡ get_or lead j (pos 0)
   taken_own = get_or-set_same (moved w j lead) w _ (pos 0) (omega (arith, moved_width))
 
-  taken_column : get_or (taken w j lead) j (pos 0) ≡ get_or lead w (pos 0)
+  pub taken_column : get_or (taken w j lead) j (pos 0) ≡ get_or lead w (pos 0)
   taken_column = get_or-set_other (moved w j lead) w j _ (pos 0) (λ e. omega (arith, e, inside)) ∙ moved_column
 
-  taken_other : (i : ℕ) → i ≢ j → i ≢ w → get_or (taken w j lead) i (pos 0) ≡ get_or lead i (pos 0)
+  pub taken_other : (i : ℕ) → i ≢ j → i ≢ w → get_or (taken w j lead) i (pos 0) ≡ get_or lead i (pos 0)
   taken_other i off away = get_or-set_other (moved w j lead) w i _ (pos 0) away ∙ moved_other i off away
 
 -- a slot's row before it is divided
-abbrev mix : ℕ → ℕ → List ℤ → List ℤ → List ℤ
+abbrev pub mix : ℕ → ℕ → List ℤ → List ℤ → List ℤ
 mix w j lead row = combination (get_or lead j (pos 0)) (set row j (pos 0)) (get_or row j (pos 0)) (moved w j lead)
 
 module _ (w j : ℕ) (lead row : List ℤ) (wide : length lead ≡ w + 2) (long : length row ≡ w + 2) (inside : j < w) where
@@ -75,17 +75,17 @@ module _ (w j : ℕ) (lead row : List ℤ) (wide : length lead ≡ w + 2) (long 
   mix_at : (i : ℕ) → i < w + 2 → get_or (mix w j lead row) i (pos 0) ≡ get_or lead j (pos 0) *ℤ get_or (set row j (pos 0)) i (pos 0) -ℤ get_or row j (pos 0) *ℤ get_or (moved w j lead) i (pos 0)
   mix_at i l = get_or-combination _ _ (set row j (pos 0)) (moved w j lead) i (pos 0) same_width (omega (arith, l, long, length-set row j (pos 0)))
 
-  mix_column : get_or (mix w j lead row) j (pos 0) ≡ get_or lead j (pos 0) *ℤ pos 0 -ℤ get_or row j (pos 0) *ℤ get_or lead w (pos 0)
+  pub mix_column : get_or (mix w j lead row) j (pos 0) ≡ get_or lead j (pos 0) *ℤ pos 0 -ℤ get_or row j (pos 0) *ℤ get_or lead w (pos 0)
   mix_column = mix_at j (omega (arith, inside))
       ∙ ap (λ (x : ℤ). get_or lead j (pos 0) *ℤ x -ℤ get_or row j (pos 0) *ℤ get_or (moved w j lead) j (pos 0)) (get_or-set_same row j (pos 0) (pos 0) (omega (arith, inside, long)))
       ∙ ap (λ (x : ℤ). get_or lead j (pos 0) *ℤ pos 0 -ℤ get_or row j (pos 0) *ℤ x) (moved_column w j lead wide inside)
 
-  mix_own : get_or (mix w j lead row) w (pos 0) ≡ get_or lead j (pos 0) *ℤ get_or row w (pos 0) -ℤ get_or row j (pos 0) *ℤ pos 0
+  pub mix_own : get_or (mix w j lead row) w (pos 0) ≡ get_or lead j (pos 0) *ℤ get_or row w (pos 0) -ℤ get_or row j (pos 0) *ℤ pos 0
   mix_own = mix_at w (omega arith)
       ∙ ap (λ (x : ℤ). get_or lead j (pos 0) *ℤ x -ℤ get_or row j (pos 0) *ℤ get_or (moved w j lead) w (pos 0)) (get_or-set_other row j w (pos 0) (pos 0) (λ e. omega (arith, e, inside)))
       ∙ ap (λ (x : ℤ). get_or lead j (pos 0) *ℤ get_or row w (pos 0) -ℤ get_or row j (pos 0) *ℤ x) (moved_own w j lead wide inside)
 
-  mix_other : (i : ℕ) → i < w + 2 → i ≢ j → i ≢ w → get_or (mix w j lead row) i (pos 0) ≡ get_or lead j (pos 0) *ℤ get_or row i (pos 0) -ℤ get_or row j (pos 0) *ℤ get_or lead i (pos 0)
+  pub mix_other : (i : ℕ) → i < w + 2 → i ≢ j → i ≢ w → get_or (mix w j lead row) i (pos 0) ≡ get_or lead j (pos 0) *ℤ get_or row i (pos 0) -ℤ get_or row j (pos 0) *ℤ get_or lead i (pos 0)
   mix_other i l off away = mix_at i l
       ∙ ap (λ (x : ℤ). get_or lead j (pos 0) *ℤ x -ℤ get_or row j (pos 0) *ℤ get_or (moved w j lead) i (pos 0)) (get_or-set_other row j i (pos 0) (pos 0) off)
       ∙ ap (λ (x : ℤ). get_or lead j (pos 0) *ℤ get_or row i (pos 0) -ℤ get_or row j (pos 0) *ℤ x) (moved_other w j lead wide inside i off away)
@@ -178,7 +178,7 @@ module _ (s : Store) (r b e j : ℕ) (sign : ℤ) (lead : List ℤ) (slot : Opti
   inside : j < s.width
   inside = is.columns e j may.entering may.column
 
-  swap : IsSwap s (exchanged s r b e j lead slot) r b e j
+  pub swap : IsSwap s (exchanged s r b e j lead slot) r b e j
   swap = record {
     row = may.row;
     basic = may.basic;
@@ -217,7 +217,7 @@ module _ (s : Store) (r b e j : ℕ) (sign : ℤ) (lead : List ℤ) (slot : Opti
   short_slot : (k : ℕ) → k < length s.rows → slot ≡ Some k → short_row (exchanged s r b e j lead slot) k ≡ taken s.width j lead
   short_slot k l q = get_or-map_from (next_short s.width j lead slot) 0 s.rows k k [] l (omega arith) ∙ slot_row s.width j lead slot k k (short_row s k) q refl
 
-  short_other : (k : ℕ) → k < length s.rows → slot ≢ Some k → short_row (exchanged s r b e j lead slot) k ≡ cleared s.width j lead (short_row s k)
+  pub short_other : (k : ℕ) → k < length s.rows → slot ≢ Some k → short_row (exchanged s r b e j lead slot) k ≡ cleared s.width j lead (short_row s k)
   short_other k l q = get_or-map_from (next_short s.width j lead slot) 0 s.rows k k [] l (omega arith) ∙ other_row s.width j lead slot k (short_row s k) q
 
   -- which slot the leaving variable has
@@ -247,7 +247,7 @@ module _ (s : Store) (r b e j : ℕ) (sign : ℤ) (lead : List ℤ) (slot : Opti
     divisor_positive : pos 0 <ℤ divisor
     divisor_positive = let d = divisor_above s.width j lead (short_row s k) may.lead_is.width long inside may.lead_is.positive (is.positive k slot_within) in omega (arith, ints, d)
 
-    cell_now : (i : ℕ) → i < s.width + 2 → divisor *ℤ cell (exchanged s r b e j lead slot) k i ≡ get_or (mix s.width j lead (short_row s k)) i (pos 0)
+    pub cell_now : (i : ℕ) → i < s.width + 2 → divisor *ℤ cell (exchanged s r b e j lead slot) k i ≡ get_or (mix s.width j lead (short_row s k)) i (pos 0)
     cell_now i l = ap (λ (xs : List ℤ). divisor *ℤ get_or xs i (pos 0)) (short_other k slot_within other)
         ∙ cleared_at s.width j lead (short_row s k) may.lead_is.width long inside may.lead_is.positive (is.positive k slot_within) i l
 
@@ -330,7 +330,7 @@ module _ (s : Store) (r b e j : ℕ) (sign : ℤ) (lead : List ℤ) (slot : Opti
 
   -- ---- the entering variable's slot
   module _ (k : ℕ) (slot_within : k < length s.rows) (mine : slot ≡ Some k) where
-    taken_cell : (i : ℕ) → cell (exchanged s r b e j lead slot) k i ≡ get_or (taken s.width j lead) i (pos 0)
+    pub taken_cell : (i : ℕ) → cell (exchanged s r b e j lead slot) k i ≡ get_or (taken s.width j lead) i (pos 0)
     taken_cell i = ap (λ (xs : List ℤ). get_or xs i (pos 0)) (short_slot k slot_within mine)
 
     slot_place : (v : ℕ) → v < variables_of s → v ≢ b → v ≢ e → (q : Place) → place_of s v ≡ q → kept_entry (exchanged s r b e j lead slot) k v ≡ lead_at v

@@ -13,6 +13,7 @@ pub mod Exchange
 pub mod Cleared
 pub mod Flips
 pub mod Steps
+pub mod Sizes
 pub mod Shorts
 pub mod WholeRows
 pub mod ClassPairs

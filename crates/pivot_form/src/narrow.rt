@@ -18,44 +18,42 @@ fn most(row: &[i64]) -> u64
 {
     let mut most = 0;
     for x in row {
-        let size = x.unsigned_abs();
-        if size > most {
-            most = size;
-        }
+        most = most.max(x.unsigned_abs());
     }
     most
 }
 
-/// Whether numbers up to the bound, times a pair's sum and once more, are small.
+/// Whether the bound, times one more than the sum, is small. Then so is each number up to the bound, and so is one of
+/// them times a sum that is no greater, less another.
 fn fits(bound: u128, most_sum: u64) -> bool
     ensures { IsTrue result → bound * (most_sum + 1) < WIDE }
 {
-    bound < 1 << 63 && bound * (u128::from(most_sum) + 1) < 1 << 63
+    let wide = u128::from(WIDE);
+    bound < wide && bound * (u128::from(most_sum) + 1) < wide
 }
 
-/// Whether a bound shows that the row and its mirror have no large entry once the column is cleared. `p` is the size of the
-/// lead's entry there, and `most_lead` the greatest size in the lead.
+/// Whether a bound shows that neither the row nor its mirror has a large entry once the column is cleared. `p` is the
+/// size of the lead's entry there, and `most_lead` the greatest size in the lead.
 fn row_fits(row: &[i64], column: usize, p: u64, most_lead: u64, most_sum: u64) -> bool
     requires within { column < length row.now }
     requires small { All (λ x. unsigned_abs x < WIDE) row.now }
     requires small_p { p < WIDE }
     requires small_lead { most_lead < WIDE }
     ensures { IsTrue result → slice_index_or row.now column (pos 0) ≢ pos 0
-        → All (λ x. (p * unsigned_abs x + unsigned_abs (slice_index_or row.now column (pos 0)) * most_lead) * (most_sum + 1) < WIDE) row.now }
+        → All (λ x. (p * unsigned_abs x + unsigned_abs (slice_index_or row.now column (pos 0)) * most_lead)
+        * (most_sum + 1) < WIDE) row.now }
 {
     let q = row[column].unsigned_abs();
-    q == 0
-        || {
-            let (kept, taken) = (
-                u128::from(p) * u128::from(most(row)),
-                u128::from(q) * u128::from(most_lead),
-            );
-            fits(kept + taken, most_sum)
-        }
+    if q == 0 {
+        return true;
+    }
+    let kept = u128::from(p) * u128::from(most(row));
+    let taken = u128::from(q) * u128::from(most_lead);
+    fits(kept + taken, most_sum)
 }
 
 /// Whether a bound on its entries shows that the next form is narrow, where the equation of the row's basic variable is
-/// kept in this slot. `most_sum` is no less than the size of any pair's sum.
+/// kept in this slot. No pair's sum has a greater size than `most_sum`. One pass over the cells; `false` says nothing.
 pub(crate) fn surely_narrow(
     short: &Short,
     slot: usize,
