@@ -1,5 +1,5 @@
 -- A slot's row that has none of the entering variable stays.
-use Rattle.std.proofs.Common.{ℕ, ◌≡◌, ◌<◌, arith, ap, sym, ◌∙◌, List, length, get_or, set, map}
+use Rattle.std.proofs.Common.{ℕ, ◌≡◌, arith, ap, sym, ◌∙◌, List, length, get_or, set, map}
 use Rattle.std.specs.Prelude.{ℤ, pos, ◌*ℤ◌, ◌<ℤ◌, unsigned_abs}
 use Rattle.std.proofs.lemmas.Int.{ints}
 use Rattle.std.proofs.lemmas.List.{set-get_or}

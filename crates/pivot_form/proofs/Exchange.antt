@@ -1,17 +1,16 @@
 -- A pivot of what is kept makes what is kept of the next form.
-use Rattle.std.proofs.Common.{ℕ, zero, suc, ◌≡◌, ◌≢◌, ◌<◌, ◌≤◌, ◌+◌, arith, refl, ap, sym, ◌∙◌, ◌⊎◌, ⊎_elim, subst, inl, inr, List, [], length, get_or, set, Some, None, Option, true, false}
-use Rattle.std.specs.Prelude.{ℤ, pos, negsuc, ◌+ℤ◌, ◌*ℤ◌, ◌-ℤ◌, ◌<ℤ◌, ◌==◌, if◌then◌else◌, unsigned_abs}
-use Rattle.std.specs.List.{All}
+use Rattle.std.proofs.Common.{ℕ, ◌≡◌, ◌≢◌, ◌<◌, ◌+◌, arith, refl, ap, sym, ◌∙◌, ◌⊎◌, ⊎_elim, subst, inl, inr, List, [], length, get_or, set, Some, None, Option, true, false}
+use Rattle.std.specs.Prelude.{ℤ, pos, negsuc, ◌*ℤ◌, ◌-ℤ◌, ◌<ℤ◌, unsigned_abs}
 use Prim.Native.Nat.{◌∣◌}
 use Rattle.std.proofs.lemmas.Int.{ints}
 use Rattle.std.proofs.lemmas.Bool.{cases_eq, cases_lt}
 use Rattle.std.proofs.lemmas.Bool.Decides.{nat_tests}
 use Rattle.std.proofs.lemmas.List.{get_or-set_other, get_or-set_same, length-set, length-map, get_or_default}
-use Rattle.exact_num.specs.Divisors.{IsPrimitive, primitive, row_gcd}
+use Rattle.exact_num.specs.Divisors.{IsPrimitive, row_gcd}
 use Rattle.exact_num.proofs.Divisors.{primitive_entry, primitive_lowest, zero_fold}
 use Rattle.exact_num.proofs.Ring.{leaf, times, minus, same}
 use Rattle.row_program.specs.Sums.{sum_from}
-use Rattle.row_program.specs.Forms.{Table, tableau, entry, combination, next_form, map_from, Holds, IsSolved, IsReduced}
+use Rattle.row_program.specs.Forms.{tableau, entry, combination, next_form, Holds}
 use Rattle.pivot_form.specs.Invariant.{IsForm}
 use Rattle.pivot_form.specs.declared.places.Pair.{Pair}
 use Rattle.pivot_form.specs.declared.places.Place.{Place}
@@ -19,9 +18,9 @@ use Rattle.pivot_form.specs.declared.places.Place.TheVariants.{Column, Kept, Pai
 use Rattle.pivot_form.specs.Kept.{Store, IsStore, variables_of, place_of, pair_of, cell, own, kept_right, short_row, entry_at, kept_entry, entry_by, entry_of, right_by, right_of, table_of, moved, cleared, taken, is_slot, next_short, exchanged}
 use Rattle.pivot_form.proofs.Sums.{cancel, positive_factor, positive_product, sum_from-combine, sum_from-same, sum_from-scale, zero_times}
 use Rattle.pivot_form.proofs.Equations.{get_or-combination, length-combination, get_or-map_from, length-map_from}
-use Rattle.pivot_form.proofs.NextForm.{IsShaped, reduced_next, solutions_kept, solved_next}
+use Rattle.pivot_form.proofs.NextForm.{reduced_next, solutions_kept, solved_next}
 use Rattle.pivot_form.proofs.Unique.{forms_are_one}
-use Rattle.pivot_form.proofs.Whole.{entry_is, kept_none, kept_own, other_clear, height}
+use Rattle.pivot_form.proofs.Whole.{entry_is, kept_own, other_clear, height}
 use Rattle.pivot_form.proofs.Solutions.{HoldsKept, HoldsOf, holds_kept, kept_holds, row_holds}
 use Rattle.pivot_form.proofs.Lowest.{store_reduced, store_shaped}
 use Rattle.pivot_form.proofs.Swaps.{IsSwap, swapped}

@@ -1,14 +1,14 @@
 -- The first form of a program.
-use Rattle.std.proofs.Common.{ℕ, zero, suc, ◌≡◌, ◌≢◌, ◌<◌, ◌≤◌, ◌+◌, ◌-◌, ◌^◌, arith, refl, ap, sym, ◌∙◌, List, [], ◌∷◌, length, get_or, set, take, map, subst, ⊎_elim, cond, None}
-use Rattle.std.specs.Prelude.{ℤ, pos, ◌+ℤ◌, ◌<ℤ◌, unsigned_abs, slice_index_or, ◌==◌}
+use Rattle.std.proofs.Common.{ℕ, zero, suc, ◌≡◌, ◌≢◌, ◌<◌, ◌≤◌, ◌+◌, ◌-◌, ◌^◌, arith, refl, ap, sym, ◌∙◌, List, [], ◌∷◌, length, get_or, subst, ⊎_elim, cond, None}
+use Rattle.std.specs.Prelude.{ℤ, pos, ◌<ℤ◌, unsigned_abs, slice_index_or, ◌==◌}
 use lib.IntN.{neg_ℤ}
 use Prim.Native.Nat.{◌∣◌}
-use Rattle.std.specs.List.{All, AllPairs, range_with_len}
+use Rattle.std.specs.List.{All, AllPairs}
 use Rattle.std.proofs.lemmas.Int.{ints}
 use Rattle.std.proofs.lemmas.Bool.{cases_lt, cases_eq}
 use Rattle.std.proofs.lemmas.Bool.Decides.{nat_tests}
-use Rattle.std.proofs.lemmas.List.{get_or_past, get_or_default, get_or-take, length-take, length-set, get_or-set_same, get_or-set_other}
-use Rattle.std.proofs.lemmas.List.FromFn.{fill_by_all, get_or-map-range_with_len, length-map-range_with_len}
+use Rattle.std.proofs.lemmas.List.{get_or_past}
+use Rattle.std.proofs.lemmas.List.FromFn.{get_or-map-range_with_len, length-map-range_with_len}
 use Rattle.std.proofs.Math.Nat.{eq-one_of_dvd-one}
 use Rattle.row_program.specs.declared.program.Term.{Term}
 use Rattle.row_program.specs.declared.program.Row.{Row}

@@ -1,6 +1,6 @@
 -- A slot that keeps the equation of one of two basic variables of a pair may keep that of the other.
-use Rattle.std.proofs.Common.{ℕ, ◌≡◌, ◌≢◌, ◌<◌, ◌+◌, arith, refl, ap, sym, ◌∙◌, ◌⊎◌, ⊎_elim, subst, inl, inr, List, [], length, get_or, set, map, Some, None, Option}
-use Rattle.std.specs.Prelude.{ℤ, pos, ◌+ℤ◌, ◌*ℤ◌, ◌-ℤ◌, ◌<ℤ◌, ◌==◌, if◌then◌else◌, unsigned_abs}
+use Rattle.std.proofs.Common.{ℕ, ◌≡◌, ◌≢◌, ◌<◌, ◌+◌, arith, refl, ap, sym, ◌∙◌, ◌⊎◌, ⊎_elim, subst, inl, inr, List, [], length, get_or, set, map, Some, Option}
+use Rattle.std.specs.Prelude.{ℤ, pos, ◌*ℤ◌, ◌-ℤ◌, ◌<ℤ◌, ◌==◌, if◌then◌else◌, unsigned_abs}
 use lib.IntN.{neg_ℤ}
 use Rattle.std.specs.List.{All}
 use Prim.Native.Nat.{◌∣◌}
@@ -15,11 +15,11 @@ use Rattle.pivot_form.specs.declared.places.Pair.{Pair}
 use Rattle.pivot_form.specs.declared.places.Place.{Place}
 use Rattle.pivot_form.specs.declared.places.Place.TheVariants.{Column, Kept, Paired}
 use Rattle.pivot_form.specs.Kept.{Store, IsStore, variables_of, place_of, pair_of, cell, own, kept_right, short_row, entry_at, entry_beside, entry_by, entry_paired, kept_entry, pair_entry, entry_of, right_beside, right_by, right_of, right_paired, table_of, mirrored, flipped}
-use Rattle.pivot_form.specs.Shorts.{IsBasic, IsShort}
+use Rattle.pivot_form.specs.Shorts.{IsBasic}
 use Rattle.pivot_form.proofs.Sums.{sum_from-same}
 use Rattle.pivot_form.proofs.Unique.{find_row, forms_are_one}
 use Rattle.pivot_form.proofs.Whole.{IsMirrorRow, kept_own, pair_first, pair_none, pair_second}
-use Rattle.pivot_form.proofs.Solutions.{HoldsKept, HoldsOf, holds_kept, kept_holds, row_holds}
+use Rattle.pivot_form.proofs.Solutions.{HoldsOf, holds_kept, kept_holds, row_holds}
 use Rattle.pivot_form.proofs.Lowest.{all_cells_one, rest_divides, store_reduced, store_shaped}
 use Rattle.pivot_form.proofs.Exchange.{not_kept}
 

@@ -1,11 +1,11 @@
 -- Sums of few terms, and products of all terms but one.
-use Rattle.std.proofs.Common.{ℕ, zero, suc, ◌≡◌, ◌≢◌, ◌<◌, ◌≤◌, ◌+◌, arith, refl, ap, sym, ◌∙◌, ◌⊎◌, ⊎_elim, Bool, true, false, cond, subst, inl, inr}
+use Rattle.std.proofs.Common.{ℕ, zero, suc, ◌≡◌, ◌≢◌, ◌<◌, ◌≤◌, ◌+◌, arith, refl, ap, sym, ◌∙◌, ◌⊎◌, ⊎_elim, subst}
 use Rattle.std.specs.Prelude.{ℤ, pos, ◌+ℤ◌, ◌*ℤ◌, ◌<ℤ◌, ◌==◌, if◌then◌else◌}
 use Rattle.std.proofs.lemmas.Int.{ints}
 use Rattle.std.proofs.lemmas.Bool.{cases_eq, cases_lt}
 use Rattle.std.proofs.lemmas.Bool.Decides.{nat_tests}
 use Rattle.row_program.specs.Sums.{sum_from}
-use Rattle.exact_num.proofs.Ring.{leaf, times, same, mul_assoc}
+use Rattle.exact_num.proofs.Ring.{leaf, times, same}
 use Rattle.pivot_form.proofs.Sums.{positive_product, zero_times}
 
 pub sum_from-zero : (n v : ℕ) (f : ℕ → ℤ) → ((u : ℕ) → v ≤ u → u < v + n → f u ≡ pos 0) → sum_from n v f ≡ pos 0

@@ -1,22 +1,21 @@
 -- The equations of a form have no common divisor, where what is kept has none.
-use Rattle.std.proofs.Common.{ℕ, zero, suc, ◌≡◌, ◌≢◌, ◌<◌, ◌≤◌, ◌+◌, ◌*◌, ◌-◌, arith, refl, ap, sym, ◌∙◌, ◌⊎◌, ⊎_elim, subst, inl, inr, List, [], length, get_or, take, drop, min}
-use Rattle.std.specs.Prelude.{ℤ, pos, ◌+ℤ◌, ◌*ℤ◌, ◌-ℤ◌, unsigned_abs}
-use Rattle.std.specs.List.{All, slice_range}
+use Rattle.std.proofs.Common.{ℕ, ◌≡◌, ◌≢◌, ◌<◌, ◌+◌, arith, refl, ap, sym, ◌∙◌, ⊎_elim, subst, List, [], length, get_or}
+use Rattle.std.specs.Prelude.{ℤ, pos, ◌*ℤ◌, ◌-ℤ◌, unsigned_abs}
+use Rattle.std.specs.List.{All}
 use Rattle.std.specs.Int.RustNames.{int_div}
 use Prim.Native.Nat.{◌∣◌}
 use Rattle.std.proofs.Math.Nat.{dvd-mul_left, eq-one_of_dvd-one}
 use Rattle.std.proofs.lemmas.Int.{ints, unsigned_abs-mul}
 use Rattle.std.proofs.lemmas.Bool.{cases_eq, cases_lt}
-use Rattle.std.proofs.lemmas.List.{get_or-drop, get_or-take, get_or_default, length-take, length-map}
+use Rattle.std.proofs.lemmas.List.{get_or_default}
 use Rattle.exact_num.specs.Divisors.{IsPrimitive}
 use Rattle.exact_num.proofs.Divisors.{exact}
 use Rattle.exact_num.proofs.Ring.{leaf, times, minus, same}
-use Rattle.row_program.specs.Forms.{IsReduced, row_of}
+use Rattle.row_program.specs.Forms.{IsReduced}
 use Rattle.pivot_form.specs.declared.places.Pair.{Pair}
-use Rattle.pivot_form.specs.declared.places.Place.{Place}
-use Rattle.pivot_form.specs.declared.places.Place.TheVariants.{Column, Kept, Paired}
-use Rattle.pivot_form.specs.Kept.{Store, IsStore, variables_of, cell, own, kept_right, short_row, kept_entry, entry_at, place_of, pair_entry, entry_of, right_of, row_entry, whole_row, table_of}
-use Rattle.pivot_form.proofs.Whole.{IsKeptRow, IsMirrorRow, IsPairRow, cell_at, height, kept_own, pair_first, pair_none, row_at, row_entry_inside, row_entry_last, row_kind, width_at}
+use Rattle.pivot_form.specs.declared.places.Place.TheVariants.{Column}
+use Rattle.pivot_form.specs.Kept.{Store, IsStore, variables_of, cell, own, kept_right, short_row, kept_entry, entry_at, place_of, pair_entry, entry_of, right_of, whole_row, table_of}
+use Rattle.pivot_form.proofs.Whole.{IsMirrorRow, cell_at, height, kept_own, pair_first, row_at, row_entry_inside, row_entry_last, row_kind, width_at}
 use Rattle.pivot_form.proofs.NextForm.{IsShaped}
 use Rattle.pivot_form.proofs.Whole.{store_solved}
 

@@ -1,8 +1,7 @@
 -- The next form, as lists, is that of a pivot.
-use Rattle.std.proofs.Common.{ℕ, ◌≡◌, ◌≢◌, ◌<◌, ◌+◌, arith, refl, ap, sym, ◌∙◌, ⊎_elim, subst, List, [], length, get_or, set, drop, None, Some}
+use Rattle.std.proofs.Common.{ℕ, ◌≡◌, ◌≢◌, ◌<◌, ◌+◌, arith, refl, ap, sym, ◌∙◌, ⊎_elim, subst, List, [], length, get_or, set, drop, None}
 use Rattle.std.specs.Prelude.{ℤ, pos, ◌*ℤ◌, ◌-ℤ◌, ◌<ℤ◌, unsigned_abs, ◌↔◌, Vec}
 use Prim.Native.Nat.{◌∣◌}
-use Rattle.std.specs.List.{All}
 use Rattle.std.specs.Vec.{with_items}
 use Rattle.std.proofs.lemmas.Int.{ints}
 use Rattle.std.proofs.lemmas.Bool.{cases_eq}
@@ -12,7 +11,7 @@ use Rattle.exact_num.specs.Divisors.{row_gcd, primitive, IsPrimitive}
 use Rattle.exact_num.proofs.Divisors.{primitive_entry, primitive_lowest, zero_fold}
 use Rattle.exact_num.proofs.Ring.{leaf, times, same}
 use Rattle.row_program.specs.Forms.{Table, row_of, entry, basic_of, tableau, combination, eliminated, turned, next_row, map_from, next_form, first_large, first_large_of, Holds, IsSolved, IsReduced}
-use Rattle.pivot_form.specs.Invariant.{IsEquation, IsForm, row_lists}
+use Rattle.pivot_form.specs.Invariant.{IsForm, row_lists}
 use Rattle.pivot_form.proofs.Sums.{positive_product, zero_times}
 use Rattle.pivot_form.proofs.Equations.{length-combination, get_or-combination, turned_by, IsTurned, length-map_from, get_or-map_from, small_rows_from_none, all_at, row_lists-get, row_lists-set, length-row_lists, map_front_from, get_or-map_front_from, map_front_from_more, map_from_drop, rows_past}
 use Rattle.pivot_form.proofs.Pivots.{IsPivot, next_holds, before_holds, next_solved}

@@ -1,21 +1,18 @@
 -- The solutions of a form that is kept without what says nothing: those of the slots and of the pairs.
-use Rattle.std.proofs.Common.{ℕ, zero, suc, ◌≡◌, ◌≢◌, ◌<◌, ◌≤◌, ◌+◌, ◌*◌, ◌-◌, arith, refl, ap, sym, ◌∙◌, ◌⊎◌, ⊎_elim, subst, inl, inr, List, [], ◌∷◌, length, get_or, map, Some, None, Option}
-use Rattle.std.specs.Prelude.{ℤ, pos, ◌+ℤ◌, ◌*ℤ◌, ◌-ℤ◌, ◌<ℤ◌, unsigned_abs}
-use Rattle.std.specs.List.{All}
-use Prim.Native.Nat.{◌∣◌}
+use Rattle.std.proofs.Common.{ℕ, ◌≡◌, ◌≢◌, ◌<◌, arith, refl, ap, sym, ◌∙◌, ⊎_elim, subst, inl, length, get_or, Some}
+use Rattle.std.specs.Prelude.{ℤ, pos, ◌+ℤ◌, ◌*ℤ◌, ◌-ℤ◌}
 use Rattle.std.proofs.lemmas.Int.{ints}
-use Rattle.std.proofs.lemmas.Bool.{cases_eq}
-use Rattle.exact_num.proofs.Ring.{leaf, times, minus, plus, same}
+use Rattle.exact_num.proofs.Ring.{leaf, times, minus, same}
 use Rattle.row_program.specs.Sums.{sum_from}
-use Rattle.row_program.specs.Forms.{tableau, entry, right_side, Holds}
+use Rattle.row_program.specs.Forms.{tableau, Holds}
 use Rattle.pivot_form.specs.declared.places.Pair.{Pair}
 use Rattle.pivot_form.specs.declared.places.Place.{Place}
 use Rattle.pivot_form.specs.declared.places.Place.TheVariants.{Column, Kept, Paired}
 use Rattle.pivot_form.specs.Kept.{Store, IsStore, variables_of, place_of, pair_of, own, kept_right, kept_entry, pair_entry, entry_of, right_of, table_of}
-use Rattle.pivot_form.proofs.Sums.{cancel, sum_from-combine, sum_from-same, zero_times}
+use Rattle.pivot_form.proofs.Sums.{cancel, sum_from-combine, sum_from-same}
 use Rattle.pivot_form.proofs.Links.{link_apart}
 use Rattle.pivot_form.proofs.Unique.{find_row}
-use Rattle.pivot_form.proofs.Whole.{IsKeptRow, IsMirrorRow, IsPairRow, entry_is, height, pair_first, pair_none, pair_second, right_is, row_kind}
+use Rattle.pivot_form.proofs.Whole.{IsMirrorRow, entry_is, height, pair_first, pair_none, pair_second, right_is, row_kind}
 
 -- each equation that is kept holds, and each pair adds up
 pub record HoldsKept (s : Store) (y : ℕ → ℤ) (d : ℤ) : Type 0 where

@@ -1,6 +1,6 @@
 -- A pivot of what is kept, from a form with small entries to the next.
-use Rattle.std.proofs.Common.{ℕ, ◌≡◌, ◌≢◌, ◌<◌, ◌+◌, arith, refl, ap, sym, ◌∙◌, ◌⊎◌, ⊎_elim, subst, inl, inr, List, [], length, get_or, set, Some, None, Option}
-use Rattle.std.specs.Prelude.{ℤ, pos, negsuc, ◌*ℤ◌, ◌<ℤ◌, ◌==◌, if◌then◌else◌, unsigned_abs}
+use Rattle.std.proofs.Common.{ℕ, ◌≡◌, ◌≢◌, ◌<◌, ◌+◌, arith, refl, ap, sym, ◌∙◌, ◌⊎◌, ⊎_elim, subst, inl, inr, List, length, get_or, set, Some, None, Option}
+use Rattle.std.specs.Prelude.{ℤ, pos, ◌*ℤ◌, ◌<ℤ◌, unsigned_abs}
 use Rattle.std.specs.List.{All}
 use Rattle.std.proofs.lemmas.Int.{ints}
 use Rattle.std.proofs.lemmas.Bool.{cases_eq}
@@ -8,14 +8,14 @@ use Rattle.std.proofs.lemmas.Bool.Decides.{nat_tests}
 use Rattle.std.proofs.lemmas.List.{ext_get_or, get_or-set_other, get_or-set_same, get_or_default, length-set}
 use Rattle.std.proofs.lemmas.List.FromFn.{get_or-map-range_with_len, length-map-range_with_len}
 use Rattle.exact_num.specs.declared.limits.TheConstants.{WIDE}
-use Rattle.row_program.specs.Forms.{tableau, entry, first_large, first_large_of, next_form, turned, IsNonbasic}
+use Rattle.row_program.specs.Forms.{entry, first_large, first_large_of, next_form, turned}
 use Rattle.pivot_form.specs.declared.places.Pair.{Pair}
 use Rattle.pivot_form.specs.declared.places.Place.{Place}
 use Rattle.pivot_form.specs.declared.places.Place.TheVariants.{Column, Kept, Paired}
 use Rattle.pivot_form.specs.Invariant.{IsEquation, IsForm}
-use Rattle.pivot_form.specs.Kept.{Store, cell, entry_at, entry_by, entry_of, exchanged, flipped, kept_entry, next_short, own, pair_entry, pair_lead, pair_of, pair_row, place_of, right_by, right_of, short_row, table_of, variables_of}
+use Rattle.pivot_form.specs.Kept.{Store, cell, entry_at, entry_by, entry_of, exchanged, flipped, kept_entry, next_short, pair_entry, pair_lead, pair_of, pair_row, place_of, right_by, right_of, short_row, table_of, variables_of}
 use Rattle.pivot_form.specs.Shorts.{IsBasic, IsShort, StandsAlone}
-use Rattle.pivot_form.proofs.Equations.{IsTurned, length-map_from, none_from_small, turned_by}
+use Rattle.pivot_form.proofs.Equations.{length-map_from, none_from_small, turned_by}
 use Rattle.pivot_form.proofs.NextForm.{next_is_form}
 use Rattle.pivot_form.proofs.Whole.{entry_is, height, kept_own, pair_first, pair_none, pair_second}
 use Rattle.pivot_form.proofs.Shorts.{cell_small, pair_at, pair_right, sum_small}
@@ -160,22 +160,22 @@ pair_written w j sum zeros wide none inside =
     let long : length (set (set (set zeros (w + 1) sum) w (pos 1)) j (pos 1)) ≡ w + 2 = length-set _ j (pos 1) ∙ length-set _ w (pos 1) ∙ length-set zeros (w + 1) sum ∙ wide in
     ext_get_or (pos 0) _ _ (long ∙ sym (length-map-range_with_len (pair_lead w j sum) 0 (w + 2)))
     (λ i l. let h : i < w + 2 = omega (arith, l, long) in
-      ⊎_elim
-      (λ (e : i ≡ j). ap (λ (x : ℕ). get_or (set (set (set zeros (w + 1) sum) w (pos 1)) j (pos 1)) x (pos 0)) e
-        ∙ get_or-set_same _ j (pos 1) (pos 0) (omega (arith, inside, wide, length-set (set zeros (w + 1) sum) w (pos 1), length-set zeros (w + 1) sum))
-        ∙ sym (lead_at w j sum i h ∙ (grind (arith, nat_tests))))
-      (λ off. get_or-set_other _ j i (pos 1) (pos 0) off ∙ ⊎_elim
-        (λ (e : i ≡ w). ap (λ (x : ℕ). get_or (set (set zeros (w + 1) sum) w (pos 1)) x (pos 0)) e
-          ∙ get_or-set_same _ w (pos 1) (pos 0) (omega (arith, wide, length-set zeros (w + 1) sum))
-          ∙ sym (lead_at w j sum i h ∙ (grind (arith, nat_tests))))
-        (λ away. get_or-set_other _ w i (pos 1) (pos 0) away ∙ ⊎_elim
-          (λ (e : i ≡ w + 1). ap (λ (x : ℕ). get_or (set zeros (w + 1) sum) x (pos 0)) e
-            ∙ get_or-set_same zeros (w + 1) sum (pos 0) (omega (arith, wide))
-            ∙ sym (lead_at w j sum i h ∙ (grind (arith, nat_tests))))
-          (λ apart. get_or-set_other zeros (w + 1) i sum (pos 0) apart ∙ none i (omega (arith, h, wide)) ∙ sym (lead_at w j sum i h ∙ (grind (arith, nat_tests))))
-          (cases_eq i (w + 1)))
-        (cases_eq i w))
-      (cases_eq i j))
+    ⊎_elim
+    (λ (e : i ≡ j). ap (λ (x : ℕ). get_or (set (set (set zeros (w + 1) sum) w (pos 1)) j (pos 1)) x (pos 0)) e
+    ∙ get_or-set_same _ j (pos 1) (pos 0) (omega (arith, inside, wide, length-set (set zeros (w + 1) sum) w (pos 1), length-set zeros (w + 1) sum))
+    ∙ sym (lead_at w j sum i h ∙ (grind (arith, nat_tests))))
+    (λ off. get_or-set_other _ j i (pos 1) (pos 0) off ∙ ⊎_elim
+    (λ (e : i ≡ w). ap (λ (x : ℕ). get_or (set (set zeros (w + 1) sum) w (pos 1)) x (pos 0)) e
+    ∙ get_or-set_same _ w (pos 1) (pos 0) (omega (arith, wide, length-set zeros (w + 1) sum))
+    ∙ sym (lead_at w j sum i h ∙ (grind (arith, nat_tests))))
+    (λ away. get_or-set_other _ w i (pos 1) (pos 0) away ∙ ⊎_elim
+    (λ (e : i ≡ w + 1). ap (λ (x : ℕ). get_or (set zeros (w + 1) sum) x (pos 0)) e
+    ∙ get_or-set_same zeros (w + 1) sum (pos 0) (omega (arith, wide))
+    ∙ sym (lead_at w j sum i h ∙ (grind (arith, nat_tests))))
+    (λ apart. get_or-set_other zeros (w + 1) i sum (pos 0) apart ∙ none i (omega (arith, h, wide)) ∙ sym (lead_at w j sum i h ∙ (grind (arith, nat_tests))))
+    (cases_eq i (w + 1)))
+    (cases_eq i w))
+    (cases_eq i j))
 
 -- ---- a pivot at a row, whose basic variable's equation is kept in the slot k
 module _ (s : Store) (r e j : ℕ) (is : IsShort s) (row : r < length s.basis) (within : e < variables_of s) (column : place_of s e ≡ Column j) (nonzero : entry (table_of s) r e ≢ pos 0) (narrow : first_large_of (next_form (table_of s) r e).rows ≡ None) where
@@ -235,8 +235,8 @@ module _ (s : Store) (r e j : ℕ) (is : IsShort s) (row : r < length s.basis) (
         kinds k =
             ⊎_elim (λ (f : k ≡ j). inl (grind (arith, nat_tests)))
             (λ off. ⊎_elim (λ (f : k ≡ s.width). inl (grind (arith, nat_tests)))
-              (λ away. ⊎_elim (λ (f : k ≡ s.width + 1). inr (inl (grind (arith, nat_tests)))) (λ apart. inr (inr (grind (arith, nat_tests)))) (cases_eq k (s.width + 1)))
-              (cases_eq k s.width))
+            (λ away. ⊎_elim (λ (f : k ≡ s.width + 1). inr (inl (grind (arith, nat_tests)))) (λ apart. inr (inr (grind (arith, nat_tests)))) (cases_eq k (s.width + 1)))
+            (cases_eq k s.width))
             (cases_eq k j)
 
         one_of : (x : ℤ) → (x ≡ pos 1) ⊎ ((x ≡ p.sum) ⊎ (x ≡ pos 0)) → unsigned_abs x < WIDE

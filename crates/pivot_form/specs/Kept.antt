@@ -3,7 +3,7 @@
 -- Two variables are a pair where an equation says that they add up to a number. Such an equation is not kept. Where one of the
 -- two is nonbasic, it is the other's equation; where both are basic, one of them has an equation that is kept, and that of the
 -- other is the pair's, times the basic entry, less the one that is kept.
-use Rattle.std.specs.Prelude.{ℕ, ℤ, pos, ◌≡◌, ◌≢◌, ◌<◌, ◌≤◌, ◌+◌, ◌*◌, ◌+ℤ◌, ◌*ℤ◌, ◌-ℤ◌, ◌<ℤ◌, ◌==◌, if◌then◌else◌, List, [], length, map, slice_index, slice_index_or, slice_set, Bool, false, Option, Some, None}
+use Rattle.std.specs.Prelude.{ℕ, ℤ, pos, ◌≡◌, ◌≢◌, ◌<◌, ◌+◌, ◌+ℤ◌, ◌*ℤ◌, ◌-ℤ◌, ◌<ℤ◌, ◌==◌, if◌then◌else◌, List, [], length, map, slice_index, slice_index_or, slice_set, Bool, false, Option, Some, None}
 use lib.IntN.{neg_ℤ}
 use Rattle.std.specs.List.{range_with_len}
 use Rattle.exact_num.specs.Divisors.{IsPrimitive, primitive}

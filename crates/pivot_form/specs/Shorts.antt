@@ -1,5 +1,5 @@
 -- What a form that is kept by slots and pairs stands for.
-use Rattle.std.specs.Prelude.{ℕ, ◌≡◌, ◌≢◌, ◌<◌, ◌≤◌, ◌+◌, ◌^◌, ◌⊎◌, IfSome, List, Option, Some, length, unsigned_abs}
+use Rattle.std.specs.Prelude.{ℕ, ◌≡◌, ◌≢◌, ◌<◌, ◌≤◌, ◌+◌, ◌^◌, ◌⊎◌, IfSome, List, Option, Some, unsigned_abs}
 use Rattle.std.specs.List.{All}
 use Rattle.row_program.specs.declared.limits.TheConstants.{TERM_LIMIT}
 use Rattle.pivot_form.specs.declared.places.Pair.{Pair}

@@ -37,11 +37,7 @@ pub(crate) fn first_short(alloc: Global, program: &Program) -> Result<Short, Mem
 }
 
 /// The basic variables of the first form: the cost, and the slacks in order.
-fn first_basics(
-    alloc: Global,
-    variables: usize,
-    rows: usize,
-) -> Result<Vec<usize>, Memory>
+fn first_basics(alloc: Global, variables: usize, rows: usize) -> Result<Vec<usize>, Memory>
     requires few_variables { variables ≤ MOST_VARIABLES }
     requires few_rows { rows ≤ MOST_ROWS }
     ensures { IfOk result (λ basics. basics.items ≡ map (first_basic variables) (range_with_len 0 (rows + 1))) }

@@ -1,11 +1,9 @@
-use Rattle.std.proofs.Common.{arith, ap, sym, ◌∙◌, subst, ◌≡◌, ℕ, ℤ, length, get_or, Some, None}
+use Rattle.std.proofs.Common.{arith, ap, sym, ◌∙◌, subst, ◌≡◌, length}
 use Rattle.std.proofs.lemmas.List.{with_items_is}
-use Rattle.row_program.specs.Forms.{IsNonbasic, IsReduced, IsSolved, Table, next_form, tableau}
+use Rattle.row_program.specs.Forms.{IsNonbasic, Table, tableau}
 use Rattle.pivot_form.specs.Invariant.{IsForm}
-use Rattle.pivot_form.specs.Kept.{table_of}
-use Rattle.pivot_form.specs.Shorts.{AreSumsUpTo, IsShort, store_of}
+use Rattle.pivot_form.specs.Shorts.{AreSumsUpTo, store_of}
 use Rattle.pivot_form.proofs.NextForm.{reduced_next, solutions_kept, solved_next}
-use Rattle.pivot_form.proofs.Whole.{height}
 use Rattle.pivot_form.proofs.WholeRows.{basic_at, row_inside}
 use Rattle.pivot_form.proofs.form.Form.pivot.Goals as goal
 
