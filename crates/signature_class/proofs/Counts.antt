@@ -16,7 +16,7 @@ use Rattle.ballot_form.specs.declared.runs.Run.{Run}
 use Rattle.ballot_form.specs.Runs.{IsFirstRun, Left}
 use Rattle.mov_base.specs.Sums.{add_up}
 use Rattle.mov_base.proofs.Sums.{add_up-append, add_up-le}
-use Rattle.signature_class.specs.Classes.{AreClasses, IsClassList, IsSeenBefore, add_all, add_class, classes_of, count_of, first_part, keys_of, seen}
+use Rattle.signature_class.specs.Classes.{AreClasses, AreKinds, IsClassList, IsSeenBefore, add_all, add_class, classes_of, count_of, first_part, keys_of, seen}
 
 -- a list with one more at the end
 pub pairs_push : {X : Type 0} (R : X → X → Type 0) (xs : List X) (x : X) → AllPairs R xs → All (λ y. R y x) xs → AllPairs R (xs ++ x ∷ [])
@@ -95,10 +95,21 @@ still_classes key n cs some is = record {
   some = some_add nat_eq key n cs some is.some;
 }
 
-pub still_kinds : (row : List ℕ) (n : ℕ) (cs : List (List ℕ × ℕ)) → 1 ≤ n → IsClassList cs → IsClassList (add_class bytes_eq row n cs)
-still_kinds row n cs some is = record {
-  distinct = differ_add bytes_eq bytes_eq-Decides row n cs is.distinct;
-  some = some_add bytes_eq row n cs some is.some;
+-- how many items all classes have then
+pub sum_add : {X : Type 0} (same : X → X → Bool) (x : X) (n : ℕ) (cs : List (X × ℕ)) → add_up (λ c. c.1) (add_class same x n cs) ≡ add_up (λ c. c.1) cs + n
+sum_add same x n [] = omega arith
+sum_add same x n (c ∷ cs) = elim (bool_of (same x c.0)) [
+  | inl t ↦ rw t (omega arith)
+  | inr f ↦ rw f (omega (arith, sum_add same x n cs))
+]
+
+pub still_kinds : (row : List ℕ) (n : ℕ) (cs : List (List ℕ × ℕ)) → 1 ≤ n → add_up (λ c. c.1) cs + n ≤ MOST_BALLOTS → AreKinds cs → AreKinds (add_class bytes_eq row n cs)
+still_kinds row n cs some few are = record {
+  classes = record {
+    distinct = differ_add bytes_eq bytes_eq-Decides row n cs are.classes.distinct;
+    some = some_add bytes_eq row n cs some are.classes.some;
+  };
+  few = let s = sum_add bytes_eq row n cs in omega arith;
 }
 
 -- ---- one item more
@@ -354,22 +365,22 @@ firsts_of_run old run new cs is =
 
 -- the classes of few ballots have room for those of a run
 few_at : (row : List ℕ) (n : ℕ) (cs : List (List ℕ × ℕ)) (later rows : List (List ℕ)) → add_all bytes_eq (add_class bytes_eq row n cs) (once later) ≡ classes_of bytes_eq rows
-    → length rows ≤ MOST_BALLOTS → count_of bytes_eq row cs + n ≤ MOST_BALLOTS
+    → length rows ≤ MOST_BALLOTS → add_up (λ c. c.1) cs + n ≤ MOST_BALLOTS
 few_at row n cs later rows is few =
     let all = (kinds_are_classes rows).counted (λ _. 1) in
     let rows_few = add_up-le (λ (_ : List ℕ). 1) 1 rows (λ x. omega arith) in
     let then = add_up-add_all bytes_eq bytes_eq-Decides (λ _. 1) (add_class bytes_eq row n cs) (once later) in
     let now = add_up-add_class bytes_eq bytes_eq-Decides (λ _. 1) row n cs in
     let same = ap (add_up (λ c. c.1 * 1)) is in
-    omega (arith, all, rows_few, then, now, same, count_le bytes_eq row cs)
+    omega (arith, all, rows_few, then, now, same, sum-times_one cs)
 
 pub room_of_run : (old : Left) (run : Run) (new : Left) (cs : List (List ℕ × ℕ)) (rows : List (List ℕ)) → IsFirstRun old run new
-    → add_all bytes_eq cs (once old.ballots) ≡ classes_of bytes_eq rows → length rows ≤ MOST_BALLOTS → count_of bytes_eq run.row.now cs + run.count ≤ MOST_BALLOTS
+    → add_all bytes_eq cs (once old.ballots) ≡ classes_of bytes_eq rows → length rows ≤ MOST_BALLOTS → add_up (λ c. c.1) cs + run.count ≤ MOST_BALLOTS
 room_of_run old run new cs rows is counted few = few_at run.row.now run.count cs new.ballots rows (kinds_of_run old run new cs is ∙ counted) few
 
 pub room_of_firsts : (old : Left) (run : Run) (new : Left) (cs : List (List ℕ × ℕ)) (rows : List (List ℕ)) → IsFirstRun old run new
     → add_all bytes_eq cs (once (map first_part old.ballots)) ≡ classes_of bytes_eq (map first_part rows) → length rows ≤ MOST_BALLOTS
-    → count_of bytes_eq (first_part run.row.now) cs + run.count ≤ MOST_BALLOTS
+    → add_up (λ c. c.1) cs + run.count ≤ MOST_BALLOTS
 room_of_firsts old run new cs rows is counted few =
     let size = length-map rows first_part in
     few_at (first_part run.row.now) run.count cs (map first_part new.ballots) (map first_part rows) (firsts_of_run old run new cs is ∙ counted) (omega (arith, size, few))

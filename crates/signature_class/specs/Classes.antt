@@ -1,6 +1,7 @@
 -- Classes: items that have the same key are counted together. A class is a key and how many items have it.
-use Rattle.std.specs.Prelude.{◌≡◌, ◌≢◌, ◌↔◌, ℕ, ◌+◌, ◌*◌, ◌≤◌, Bool, List, [], ◌∷◌, ◌++◌, map, take, Contains, All, AllPairs, if◌then◌else◌}
+use Rattle.std.specs.Prelude.{◌≡◌, ◌≢◌, ◌↔◌, ℕ, ◌+◌, ◌*◌, ◌≤◌, Bool, List, [], ◌∷◌, ◌++◌, map, take, nat_eq, Contains, All, AllPairs, if◌then◌else◌}
 use Rattle.std.specs.Borrow.{Bor}
+use Rattle.ballot_form.specs.declared.limits.TheConstants.{MOST_BALLOTS}
 use Rattle.mov_base.specs.Sums.{add_up}
 
 -- the classes after so many more items of the key: the count of its class rises, or a new class stands last
@@ -43,6 +44,15 @@ pub record AreClasses {X : Type 0} (xs : List X) (cs : List (X × ℕ)) : Type 0
 pub record IsClassList {X : Type 0} (cs : List (X × ℕ)) : Type 0 where
   pub distinct : AllPairs (λ k l. k ≢ l) (keys_of cs)
   pub some : All (λ c. 1 ≤ c.1) cs
+
+-- the kinds of the ballots of a roll: distinct ballots, each with how many there are of it
+pub record AreKinds (kinds : List (List ℕ × ℕ)) : Type 0 where
+  pub classes : IsClassList kinds
+  pub few : add_up (λ k. k.1) kinds ≤ MOST_BALLOTS
+
+-- the classes of ballots by a key, from their kinds
+abbrev pub classes_by : (List ℕ → ℕ) → List (List ℕ × ℕ) → List (ℕ × ℕ)
+classes_by key kinds = add_all nat_eq [] (map (λ k. (key k.0, k.1)) kinds)
 
 -- how many items the class of the key has; none where there is no such class
 abbrev pub count_of : {X : Type 0} → (X → X → Bool) → X → List (X × ℕ) → ℕ

@@ -1,10 +1,13 @@
 -- Signatures: who holds a ballot in turn, where the candidates of a suffix go out in its order. And keys, numbers that
 -- stand for sets. After Magrino, Rivest, Shen and Wagner (2011) and Blom, Stuckey, Teague and Tidhar (2016).
-use Rattle.std.specs.Prelude.{ℕ, ◌+◌, ◌^◌, ◌==◌, nat_lt, Bool, List, [], ◌∷◌, if◌then◌else◌}
+use Rattle.std.specs.Prelude.{ℕ, ◌+◌, ◌-◌, ◌^◌, ◌<◌, ◌≤◌, ◌==◌, nat_lt, nat_le, Bool, List, [], ◌∷◌, All, AllPairs, Option, if◌then◌else◌, drop, find, slice_index}
 use Rattle.std.specs.List.{range_with_len}
-use Rattle.irv_count.specs.Orders.{member}
+use Rattle.irv_count.specs.Orders.{holder, member}
+use Rattle.ballot_form.specs.Scores.{is_some_of}
 use Rattle.mov_base.specs.Sums.{add_up}
 use Rattle.signature_class.specs.declared.limits.TheConstants.{MOST_PLACES}
+
+-- ---- places
 
 -- the place of a candidate in a list whose first candidate has the place i; 0 where it isn't there
 abbrev pub place_from : ℕ → List ℕ → ℕ → ℕ
@@ -14,6 +17,21 @@ place_from i (y ∷ suffix) x = if y == x then i else place_from (i + 1) suffix 
 -- the place of a candidate in a suffix, from 1: the first goes out first, the last wins; 0 where it isn't there
 abbrev pub place_in : List ℕ → ℕ → ℕ
 place_in suffix x = place_from 1 suffix x
+
+-- the candidate at a place of a suffix, from 1
+abbrev pub candidate_at : List ℕ → ℕ → ℕ
+candidate_at suffix p = slice_index suffix (p - 1)
+
+-- places of a suffix of m candidates, strictly ascending
+pub record ArePlaces (m : ℕ) (places : List ℕ) : Type 0 where
+  pub within : All (λ p. (1 ≤ p) × (p ≤ m)) places
+  pub ascending : AllPairs (λ p q. p < q) places
+
+-- the first of the places that is at least i
+abbrev pub first_from : ℕ → List ℕ → Option ℕ
+first_from i places = find (λ p. nat_le i p) places
+
+-- ---- signatures
 
 -- the places on a ballot that are greater than m and than all kept before them
 abbrev pub kept_from : List ℕ → ℕ → List ℕ → List ℕ
@@ -26,8 +44,18 @@ kept_from suffix m (x ∷ ballot) =
 abbrev pub signature_of : List ℕ → List ℕ → List ℕ
 signature_of suffix ballot = kept_from suffix 0 ballot
 
+-- those of a suffix who stand in round i, from 1: the candidates at the places from i on
+abbrev pub stands_in_round : List ℕ → ℕ → ℕ → Bool
+stands_in_round suffix i x = member x (drop (i - 1) suffix)
+
+-- where z and all candidates of a suffix stand, z holds the ballot: it stands there before those that the ballot ranks
+abbrev pub holds_before : ℕ → List ℕ → List ℕ → Bool
+holds_before z suffix ballot = is_some_of (holder (λ x. member x (z ∷ suffix)) ballot) z
+
+-- ---- keys
+
 -- the number with these bits set, of the first n
-abbrev pub bits_of : ℕ → (ℕ → Bool) → ℕ
+unfoldable pub bits_of : ℕ → (ℕ → Bool) → ℕ
 bits_of n test = add_up (λ k. if test k then 2 ^ k else 0) (range_with_len 0 n)
 
 -- the key of a list of places: bit p - 1 for each place p

@@ -7,10 +7,18 @@
 #![tactic(auto)]
 
 mod classes;
+mod grouped;
+mod keys;
 mod laws;
+mod limits;
 pub mod parts;
+mod places;
 mod rolls;
 
 pub use classes::Classes;
+pub use grouped::{cover_classes, suffix_classes};
+pub use keys::{cover_key, signature_key, suffix_key};
 pub use laws::classes_are_counted;
+pub use limits::MOST_PLACES;
+pub use places::{Places, signature};
 pub use rolls::{first_kinds, kinds};

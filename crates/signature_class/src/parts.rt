@@ -1,7 +1,9 @@
 // The kinds of a roll, named by its module since a function has the same letters.
 ghost use Rattle.std.specs.Prelude.{◌≡◌, ◌≤◌, ◌+◌, ◌<◌, [], length, slice_index_or, OnOk, OnErr};
 ghost use Rattle.std.specs.Str.{bytes_eq};
-ghost use Rattle.signature_class.specs.Classes.{IsClassList, add_class, count_of};
+ghost use Rattle.mov_base.specs.Sums.{add_up};
+ghost use Rattle.signature_class.specs.Classes.{IsClassList, add_class};
+ghost use Rattle.ballot_form.specs.declared.limits.TheConstants.{MOST_BALLOTS};
 
 use ballot_form::{Cand, MOST_BALLOTS};
 use indexmap::IndexMap;
@@ -18,14 +20,13 @@ pub struct Kinds<'a> {
 
 impl<'a> Model for Kinds<'a> {
     ghost use Rattle.std.specs.Prelude.{List, ℕ};
-    ghost use Rattle.signature_class.specs.Classes.{seen};
-    ghost use Rattle.signature_class.specs.Classes.{IsClassList};
+    ghost use Rattle.signature_class.specs.Classes.{AreKinds, seen};
 
     ghost Value = { List (List ℕ × ℕ) };
 
     ghost view = { λ k. seen k.counts.entries };
 
-    ghost invariant = { λ k. IsClassList (seen k.counts.entries) };
+    ghost invariant = { λ k. AreKinds (seen k.counts.entries) };
 }
 
 impl<'a> Kinds<'a> {
@@ -42,7 +43,7 @@ impl<'a> Kinds<'a> {
     #[tactic(auto, using(crate::proofs::Counts::still_kinds))]
     pub(crate) fn add_times(&mut self, row: &'a [Cand], count: u32) -> Result<(), Memory>
         requires some { 1 ≤ count }
-        requires few { count_of bytes_eq row.now self.old + count ≤ MOST_BALLOTS }
+        requires few { add_up (λ k. k.1) self.old + count ≤ MOST_BALLOTS }
         ensures added { OnOk result (self.new ≡ add_class bytes_eq row.now count self.old) }
         ensures unchanged { OnErr result (self.new ≡ self.old) }
     {
@@ -55,10 +56,11 @@ impl<'a> Kinds<'a> {
         Ok(())
     }
 
-    /// How many kinds there are.
+    /// How many kinds there are. Their counts add up to the number of ballots.
     pub fn len(&self) -> usize
         ensures value { result ≡ length self.now }
         ensures classes { IsClassList self.now }
+        ensures few { add_up (λ k. k.1) self.now ≤ MOST_BALLOTS }
     {
         self.counts.len()
     }
