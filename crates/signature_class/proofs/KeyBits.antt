@@ -1,13 +1,12 @@
 -- Keys as sets of bits.
-use Rattle.std.proofs.Common.{ℕ, zero, suc, List, [], ◌∷◌, ◌++◌, Bool, true, false, ◌≡◌, ◌≢◌, ◌<◌, ◌≤◌, ◌+◌, ◌-◌, ◌*◌, ◌/◌, ◌%◌, ◌^◌, ◌==◌, ◌∙◌, ◌⊎◌, cond, refl, sym, ap, inl, inr, arith, w64}
+use Rattle.std.proofs.Common.{ℕ, zero, suc, List, [], ◌∷◌, ◌++◌, Bool, true, false, ◌≡◌, ◌<◌, ◌≤◌, ◌+◌, ◌-◌, ◌*◌, ◌/◌, ◌%◌, ◌^◌, ◌==◌, ◌∙◌, ◌⊎◌, cond, refl, sym, subst, ap, inl, inr, arith, w64}
 use Rattle.std.specs.Prelude.{◌||◌}
 use Rattle.std.specs.List.{range_with_len}
 use Rattle.std.specs.Int.{bit_at}
 use Rattle.std.specs.Int.RustNames.{bit_or}
-use Rattle.std.proofs.lemmas.Bool.{cases_Bool, cases_eq}
-use Rattle.std.proofs.lemmas.Bool.Decides.{nat_tests}
-use Rattle.std.proofs.lemmas.Nat.{one_shl, or_lt, pow_below, pow_pos, pow-add}
-use Rattle.std.proofs.lemmas.Nat.Bits.{bit_at-lt, bit_at-suc, bit_at-zero, bit_at_lowest, bit_at_set_other, bit_at_set_same, same_from_bits_below}
+use Rattle.std.proofs.lemmas.Bool.{cases_Bool, cases_eq, cases_lt}
+use Rattle.std.proofs.lemmas.Nat.{one_shl, or_lt, pow_below, pow-add}
+use Rattle.std.proofs.lemmas.Nat.Bits.{bit_at-lt, bit_at-suc, bit_at-zero, bit_at_above, bit_at_lowest, bit_at_set_other, bit_at_set_same, same_from_bits_below}
 use Rattle.irv_count.specs.Orders.{member, stands}
 use Rattle.irv_count.proofs.Members.{differ_test, member_append, same_test}
 use Rattle.mov_base.specs.Sums.{add_up}
@@ -41,7 +40,7 @@ bits_fit (suc n) test =
     let ih = bits_fit n (λ k. test (k + 1)) in
     let d = double n in
     let e : suc n ≡ n + 1 = omega arith in
-    rw (bits_step n test, e) (elim (cases_Bool (test 0)) [ | inl t ↦ rw t (omega arith) | inr f ↦ rw f (omega arith) ])
+    rw (bits_step n test, e) (elim (cases_Bool (test 0)) [ inl t ↦ rw t (omega arith) | inr f ↦ rw f (omega arith) ])
 
 -- which bits are set
 pub stands_bits : (n : ℕ) (test : ℕ → Bool) (i : ℕ) → i < n → stands (bits_of n test) i ≡ test i
@@ -53,7 +52,7 @@ stands_bits (suc n) test zero within =
     ])
 stands_bits (suc n) test (suc i) within =
     let half : (cond (test 0) 1 0 + 2 * bits_of n (λ k. test (k + 1))) / 2 ≡ bits_of n (λ k. test (k + 1)) =
-        elim (cases_Bool (test 0)) [ | inl t ↦ rw t (omega arith) | inr f ↦ rw f (omega arith) ] in
+    elim (cases_Bool (test 0)) [ inl t ↦ rw t (omega arith) | inr f ↦ rw f (omega arith) ] in
     let e : i + 1 ≡ suc i = omega arith in
     rw (bits_step n test, bit_at-suc (cond (test 0) 1 0 + 2 * bits_of n (λ k. test (k + 1))) i, half) (stands_bits n (λ k. test (k + 1)) i (omega arith) ∙ ap test e)
 
@@ -79,6 +78,25 @@ key_is n key test fits same =
 
 pub bits_same : (n : ℕ) (test other : ℕ → Bool) → ((i : ℕ) → i < n → test i ≡ other i) → bits_of n test ≡ bits_of n other
 bits_same n test other same = key_is n (bits_of n test) other (bits_fit n test) (λ i lt. stands_bits n test i lt ∙ same i lt)
+
+-- bits that aren't set may be left out at the top
+pub bits_unset : (m n : ℕ) (test : ℕ → Bool) → m ≤ n → ((i : ℕ) → m ≤ i → i < n → test i ≡ false) → bits_of m test ≡ bits_of n test
+bits_unset m n test few unset =
+    let fits = bits_fit m test in
+    key_is n (bits_of m test) test (small (cases_lt m n)) (λ i lt. elim (cases_lt i m) [
+      | inl low ↦ stands_bits m test i low
+      | inr past ↦ rw (bit_at_above (bits_of m test) m i fits past) (sym (unset i past lt))
+    ])
+  where
+    small : (m < n) ⊎ (n ≤ m) → bits_of m test < 2 ^ n
+    small (inl lt) = omega (arith, bits_fit m test, pow_below m n lt)
+    small (inr le) = let e : m ≡ n = omega arith in subst (λ k. bits_of m test < 2 ^ k) e (bits_fit m test)
+
+pub bits_below : (n m : ℕ) (test : ℕ → Bool) → ((i : ℕ) → m ≤ i → test i ≡ false) → bits_of n test < 2 ^ m
+bits_below n m test unset = elim (cases_lt n m) [
+  | inl few ↦ omega (arith, bits_fit n test, pow_below n m few)
+  | inr many ↦ rw (sym (bits_unset m n test many (λ i past lt. unset i past))) (bits_fit m test)
+]
 
 -- what equal keys tell
 pub same_bits : (n : ℕ) (test other : ℕ → Bool) → bits_of n test ≡ bits_of n other → (i : ℕ) → i < n → test i ≡ other i
@@ -117,7 +135,7 @@ pub key_more : (places : List ℕ) (p key new : ℕ) → 1 ≤ p → ((set : ℕ
 key_more places p key new some more is =
     more (λ k. member (k + 1) places) is
     ∙ bits_same MOST_PLACES (λ y. member (y + 1) places || (y == p - 1)) (λ k. member (k + 1) (places ++ p ∷ []))
-      (λ y lt. rw (member_append (y + 1) p places) (ap (λ b. member (y + 1) places || b) (test y)))
+    (λ y lt. rw (member_append (y + 1) p places) (ap (λ b. member (y + 1) places || b) (test y)))
   where
     test : (y : ℕ) → (y == p - 1) ≡ (y + 1 == p)
     test y = elim (cases_eq y (p - 1)) [

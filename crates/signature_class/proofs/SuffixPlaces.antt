@@ -1,11 +1,9 @@
 -- Places of candidates in a suffix.
-use Rattle.std.proofs.Common.{ℕ, zero, suc, List, [], ◌∷◌, Bool, true, false, ◌≡◌, ◌≢◌, ◌<◌, ◌≤◌, ◌+◌, ◌-◌, ◌==◌, ◌∙◌, ◌⊎◌, length, drop, get_or, ltb, All, refl, sym, ap, inl, inr, arith}
-use Rattle.std.specs.Prelude.{AllPairs, ◌||◌}
-use Rattle.std.proofs.lemmas.Bool.{cases_Bool, cases_eq, cases_lt, lt-ltb, le-ltb}
-use Rattle.std.proofs.lemmas.List.Elements.{Contains-get_or}
+use Rattle.std.proofs.Common.{ℕ, zero, suc, List, [], ◌∷◌, true, false, ◌≡◌, ◌<◌, ◌≤◌, ◌+◌, ◌-◌, ◌==◌, ◌∙◌, ◌⊎◌, length, drop, get_or, ltb, refl, sym, ap, inl, inr, arith}
+use Rattle.std.proofs.lemmas.Bool.{cases_Bool, cases_eq, lt-ltb, le-ltb}
 use Rattle.ballot_form.specs.Ballots.{AreDistinct}
 use Rattle.irv_count.specs.Orders.{member}
-use Rattle.irv_count.proofs.Members.{differ_test, member_at, place_member, same_test}
+use Rattle.irv_count.proofs.Members.{differ_test, member_at, same_test}
 use Rattle.signature_class.specs.Signatures.{candidate_at, place_from, place_in}
 
 -- a candidate isn't in the suffix, or its place is one of these
@@ -31,6 +29,14 @@ place_out [] i x out = refl
 place_out (y ∷ suffix) i x out = elim (cases_eq y x) [
   | inl same ↦ absurd (let e : true ≡ false = rw (same_test x y (sym same)) at out in cc)
   | inr other ↦ rw (differ_test y x other) (place_out suffix (i + 1) x (rw (differ_test x y (λ e. other (sym e))) at out))
+]
+
+-- one that is
+pub place_on : (suffix : List ℕ) (i x : ℕ) → 1 ≤ i → member x suffix ≡ true → 1 ≤ place_from i suffix x
+place_on [] i x some on = cc
+place_on (y ∷ suffix) i x some on = elim (cases_eq y x) [
+  | inl same ↦ rw (same_test y x same) some
+  | inr other ↦ rw (differ_test y x other) (place_on suffix (i + 1) x (omega arith) (rw (differ_test x y (λ e. other (sym e))) at on))
 ]
 
 tail_distinct : (y : ℕ) (suffix : List ℕ) → AreDistinct (y ∷ suffix) → AreDistinct suffix

@@ -1,6 +1,7 @@
 -- Signatures: who holds a ballot in turn, where the candidates of a suffix go out in its order. And keys, numbers that
 -- stand for sets. After Magrino, Rivest, Shen and Wagner (2011) and Blom, Stuckey, Teague and Tidhar (2016).
-use Rattle.std.specs.Prelude.{ℕ, ◌+◌, ◌-◌, ◌^◌, ◌<◌, ◌≤◌, ◌==◌, nat_lt, nat_le, Bool, List, [], ◌∷◌, All, AllPairs, Option, if◌then◌else◌, drop, find, slice_index}
+use Rattle.std.specs.Prelude.{ℕ, ◌+◌, ◌-◌, ◌^◌, ◌<◌, ◌≤◌, ◌==◌, nat_lt, nat_le, Bool, if◌then◌else◌}
+use Rattle.std.specs.Prelude.{List, [], ◌∷◌, All, AllPairs, Option, drop, find, slice_index}
 use Rattle.std.specs.List.{range_with_len}
 use Rattle.irv_count.specs.Orders.{holder, member}
 use Rattle.ballot_form.specs.Scores.{is_some_of}
@@ -74,3 +75,7 @@ up_to x (y ∷ ballot) = if y == x then y ∷ [] else y ∷ up_to x ballot
 -- the key of a ballot under the cover of x: bit y for each y before x, and x itself where it is ranked
 abbrev pub cover_key : ℕ → List ℕ → ℕ
 cover_key x ballot = bits_of MOST_PLACES (λ y. member y (up_to x ballot))
+
+-- each candidate on a ballot has a bit of its own
+abbrev pub HaveBits : List ℕ → Type 0
+HaveBits ballot = All (λ y. y < MOST_PLACES) ballot

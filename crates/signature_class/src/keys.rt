@@ -1,6 +1,8 @@
 // Keys of ballots: numbers below 2^40 that stand for sets.
-ghost use Rattle.std.specs.Prelude.{◌≡◌, ◌≤◌, ◌==◌, ◌||◌, ℕ, Bool, All, length};
-ghost use Rattle.signature_class.specs.Signatures.{bits_of, cover_key as key_under_cover, places_key, suffix_key as key_under_suffix};
+ghost use Rattle.std.specs.Prelude.{◌≡◌, ◌≤◌, ◌<◌, ◌+◌, ◌==◌, ◌||◌, ℕ, Bool, All, length};
+ghost use Rattle.irv_count.specs.Orders.{member, stands};
+ghost use Rattle.signature_class.specs.Signatures.{bits_of, places_key};
+ghost use Rattle.signature_class.specs.Signatures.{cover_key as key_under_cover, suffix_key as key_under_suffix};
 ghost use Rattle.signature_class.specs.declared.limits.TheConstants.{MOST_PLACES};
 
 use crate::limits::MOST_PLACES;
@@ -10,7 +12,8 @@ use ballot_form::Cand;
 /// The key of a list of places, each from 1 to 40: bit p - 1 for each place p.
 pub fn signature_key(places: &[u8]) -> u64
     requires { All (λ p. (1 ≤ p) × (p ≤ MOST_PLACES)) places.now }
-    ensures { result ≡ places_key places.now }
+    ensures key { result ≡ places_key places.now }
+    ensures bits { (k : ℕ) → k < MOST_PLACES → stands result k ≡ member (k + 1) places.now }
 {
     let mut key = 0;
     for place in places {
@@ -31,8 +34,8 @@ pub fn suffix_key(row: &[Cand], suffix: &[Cand]) -> u64
     key
 }
 
-/// The key of a ballot under the cover of `x`: bit y for each candidate y before `x`, and for `x` itself where it is ranked.
-/// Where it isn't, these are all candidates on the ballot. Only candidates below 40 have a bit.
+/// The key of a ballot under the cover of `x`: bit y for each candidate y before `x`, and for `x` itself where it is
+/// ranked. Where it isn't, these are all candidates on the ballot. Only candidates below 40 have a bit.
 pub fn cover_key(row: &[Cand], x: Cand) -> u64
     ensures { result ≡ key_under_cover x row.now }
 {

@@ -11,8 +11,8 @@ use std::marker::Model;
 /// Places of a suffix, from 1. No list of at most 40 takes memory.
 pub type Places = SmallVec<u8, 40>;
 
-/// The signature of the ballot under a suffix of at most 40 candidates, the first of whom goes out first: the places, from
-/// 1, of the candidates who hold the ballot in turn, strictly ascending. It takes no memory.
+/// The signature of the ballot under a suffix of at most 40 candidates, the first of whom goes out first: the places,
+/// from 1, of the candidates who hold the ballot in turn, strictly ascending. It takes no memory.
 pub fn signature(alloc: Global, row: &[Cand], suffix: &[Cand]) -> Places
     requires { length suffix.now ≤ MOST_PLACES }
     ensures value { result.items ≡ signature_of suffix.now row.now }

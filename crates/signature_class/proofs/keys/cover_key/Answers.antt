@@ -1,7 +1,7 @@
-use Rattle.std.proofs.Common.{rules, ◌≡◌, ◌<◌, ◌∷◌, ◌++◌, ◌∙◌, [], length, take, drop, get_or, refl, append_assoc, ap, sym, arith}
-use Rattle.std.proofs.lemmas.List.{take_more, drop_more}
+use Rattle.std.proofs.Common.{◌<◌, ◌∙◌, length, take, get_or, refl, ap, sym, arith}
+use Rattle.std.proofs.lemmas.List.{take_more}
 use Rattle.irv_count.specs.Orders.{member}
-use Rattle.signature_class.specs.Signatures.{bits_of, up_to}
+use Rattle.signature_class.specs.Signatures.{bits_of}
 use Rattle.signature_class.specs.declared.limits.TheConstants.{MOST_PLACES}
 use Rattle.signature_class.proofs.Covers.{up_to_here, up_to_later}
 use Rattle.signature_class.proofs.KeyBits.{members_more, none_set}
@@ -25,6 +25,6 @@ loop-y-preserved c =
     let within : i < length row = omega arith in
     record {
       key = members_more (take i row) (get_or row i 0) c.loop-y.key c.with_bit-key.result c.with_bit-key.ensures c.loop-y.invariant.key
-        ∙ ap (λ xs. bits_of MOST_PLACES (λ y. member y xs)) (sym (take_more row i 0 within));
+          ∙ ap (λ xs. bits_of MOST_PLACES (λ y. member y xs)) (sym (take_more row i 0 within));
       left = up_to_later c.args.x i row within c.if-y-x.false ∙ c.loop-y.invariant.left;
     }

@@ -1,4 +1,4 @@
-use Rattle.std.proofs.Common.{rules, ◌≡◌, ◌≤◌, ◌<◌, ◌∷◌, ◌++◌, ◌∙◌, [], append_assoc, ap, sym, arith}
+use Rattle.std.proofs.Common.{rules, ◌∷◌, ◌++◌, ◌∙◌, [], append_assoc, ap, sym}
 use Rattle.signature_class.proofs.KeyBits.{key_more, none_set}
 use Rattle.signature_class.proofs.KeptPlaces.{kept_some}
 use Rattle.signature_class.proofs.keys.suffix_key.Goals as goal

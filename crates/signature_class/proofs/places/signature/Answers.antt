@@ -1,4 +1,4 @@
-use Rattle.std.proofs.Common.{rules, ◌≡◌, ◌+◌, ◌∷◌, ◌++◌, ◌∙◌, length, append_assoc, length-append, ap, sym, subst, arith}
+use Rattle.std.proofs.Common.{rules, ◌≡◌, ◌+◌, ◌∷◌, ◌∙◌, length, append_assoc, length-append, ap, sym, subst, arith}
 use Rattle.signature_class.specs.Signatures.{ArePlaces, signature_of}
 use Rattle.signature_class.proofs.KeptPlaces.{signature_few, signature_places}
 use Rattle.signature_class.proofs.places.signature.Goals as goal
@@ -8,7 +8,7 @@ push_reserved-requires c =
     let few = signature_few c.args.suffix.now c.args.row.now in
     let rest : c.loop-place.place-iterator ≡ c.in-Some.place ∷ c.next.new.self = c.in-Some.ensures.steps in
     let kept : length c.loop-place.places.items + length c.loop-place.place-iterator ≡ length (signature_of c.args.suffix.now c.args.row.now) =
-        sym (length-append c.loop-place.places.items c.loop-place.place-iterator) ∙ ap length c.loop-place.invariant.kept in
+    sym (length-append c.loop-place.places.items c.loop-place.place-iterator) ∙ ap length c.loop-place.invariant.kept in
     let some = ap length rest in
     (omega arith, omega arith)
 
