@@ -1,5 +1,7 @@
 -- Ballots up to a candidate, and what the key of a cover tells.
-use Rattle.std.proofs.Common.{ℕ, suc, List, [], ◌∷◌, ◌++◌, Option, Some, None, All, Bool, true, false, ◌≡◌, ◌≢◌, ◌<◌, ◌≤◌, ◌+◌, ◌^◌, ◌==◌, ◌∙◌, length, take, drop, get_or, refl, sym, ap, inl, inr, append_assoc, arith}
+use Rattle.std.proofs.Common.{ℕ, suc, List, [], ◌∷◌, ◌++◌, Option, Some, None, All, Bool, true, false, ◌≡◌, ◌≢◌}
+use Rattle.std.proofs.Common.{◌<◌, ◌≤◌, ◌+◌, ◌^◌, ◌==◌, ◌∙◌, length, take, drop, get_or, refl, sym, ap, inl, inr}
+use Rattle.std.proofs.Common.{append_assoc, arith}
 use Rattle.std.specs.Prelude.{not, ◌&&◌, option_map, IfSome}
 use Rattle.std.proofs.lemmas.Bool.{cases_eq, cases_lt, le-ltb, lt-ltb}
 use Rattle.std.proofs.lemmas.List.{drop_more, take_more}
@@ -12,12 +14,14 @@ use Rattle.signature_class.specs.declared.limits.TheConstants.{MOST_PLACES}
 use Rattle.signature_class.proofs.KeyBits.{bits_below, same_bits}
 
 -- at the candidate the part ends
-pub up_to_here : (x i : ℕ) (row : List ℕ) → i < length row → get_or row i 0 ≡ x → take i row ++ get_or row i 0 ∷ [] ≡ take i row ++ up_to x (drop i row)
+pub up_to_here : (x i : ℕ) (row : List ℕ) → i < length row → get_or row i 0 ≡ x
+    → take i row ++ get_or row i 0 ∷ [] ≡ take i row ++ up_to x (drop i row)
 up_to_here x i row within here =
     rw (drop_more row i 0 within, same_test (get_or row i 0) x here) refl
 
 -- at another one it goes on
-pub up_to_later : (x i : ℕ) (row : List ℕ) → i < length row → get_or row i 0 ≢ x → take (i + 1) row ++ up_to x (drop (i + 1) row) ≡ take i row ++ up_to x (drop i row)
+pub up_to_later : (x i : ℕ) (row : List ℕ) → i < length row → get_or row i 0 ≢ x
+    → take (i + 1) row ++ up_to x (drop (i + 1) row) ≡ take i row ++ up_to x (drop i row)
 up_to_later x i row within other =
     rw (drop_more row i 0 within, differ_test (get_or row i 0) x other, take_more row i 0 within) (append_assoc (take i row) (get_or row i 0 ∷ []) (up_to x (drop (i + 1) row)))
 
@@ -68,7 +72,8 @@ preferred_over x j (z ∷ ballot) = elim (cases_eq z x) [
 ]
 
 -- x is preferred to those who don't stand up to it, where it is ranked
-preferred_to : (x j : ℕ) (ballot : List ℕ) → prefers ballot x j ≡ (member x (up_to x ballot) && not (member j (up_to x ballot)))
+preferred_to : (x j : ℕ) (ballot : List ℕ)
+    → prefers ballot x j ≡ (member x (up_to x ballot) && not (member j (up_to x ballot)))
 preferred_to x j [] = refl
 preferred_to x j (z ∷ ballot) = elim (cases_eq z x) [
   | inl at ↦ elim (cases_eq z j) [
@@ -107,11 +112,13 @@ same_part x ballot other below also same y = elim (cases_lt y MOST_PLACES) [
   | inr high ↦ unranked MOST_PLACES x y ballot below high ∙ sym (unranked MOST_PLACES x y other also high)
 ]
 
-pub cover_tells_over : (x j : ℕ) (ballot other : List ℕ) → HaveBits ballot → HaveBits other → cover_key x ballot ≡ cover_key x other → prefers ballot j x ≡ prefers other j x
+pub cover_tells_over : (x j : ℕ) (ballot other : List ℕ) → HaveBits ballot → HaveBits other
+    → cover_key x ballot ≡ cover_key x other → prefers ballot j x ≡ prefers other j x
 cover_tells_over x j ballot other below also same =
     preferred_over x j ballot ∙ ap (λ b. b && not (j == x)) (same_part x ballot other below also same j) ∙ sym (preferred_over x j other)
 
-pub cover_tells_under : (x j : ℕ) (ballot other : List ℕ) → HaveBits ballot → HaveBits other → cover_key x ballot ≡ cover_key x other → prefers ballot x j ≡ prefers other x j
+pub cover_tells_under : (x j : ℕ) (ballot other : List ℕ) → HaveBits ballot → HaveBits other
+    → cover_key x ballot ≡ cover_key x other → prefers ballot x j ≡ prefers other x j
 cover_tells_under x j ballot other below also same =
     preferred_to x j ballot
     ∙ ap (λ b. b && not (member j (up_to x ballot))) (same_part x ballot other below also same x)

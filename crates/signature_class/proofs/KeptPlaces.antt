@@ -1,5 +1,6 @@
 -- The places that a ballot keeps: a signature.
-use Rattle.std.proofs.Common.{ℕ, suc, List, [], ◌∷◌, Some, true, false, ◌≡◌, ◌<◌, ◌≤◌, ◌+◌, ◌-◌, ◌∙◌, ◌++◌, length, drop, get_or, leb, map, All, refl, sym, ap, inl, inr, arith}
+use Rattle.std.proofs.Common.{ℕ, suc, List, [], ◌∷◌, Some, true, false, ◌≡◌, ◌<◌, ◌≤◌, ◌+◌, ◌-◌, ◌∙◌, ◌++◌, length}
+use Rattle.std.proofs.Common.{drop, get_or, leb, map, All, refl, sym, ap, inl, inr, arith}
 use Rattle.std.specs.Prelude.{AllPairs, find, option_map}
 use Rattle.std.proofs.lemmas.Bool.{cases_lt, cases_order, lt-ltb, le-ltb, le-leb, lt-leb}
 use Rattle.std.proofs.lemmas.List.{get_or_at, length-append}
@@ -8,7 +9,8 @@ use Rattle.std.proofs.lemmas.List.Kept.{AllPairs-cons}
 use Rattle.ballot_form.specs.Ballots.{AreDistinct}
 use Rattle.irv_count.specs.Orders.{holder, member}
 use Rattle.irv_count.proofs.Members.{differ_test, same_test}
-use Rattle.signature_class.specs.Signatures.{ArePlaces, candidate_at, first_from, kept_from, place_in, signature_of, stands_in_round}
+use Rattle.signature_class.specs.Signatures.{ArePlaces, candidate_at, first_from, kept_from, place_in, signature_of}
+use Rattle.signature_class.specs.Signatures.{stands_in_round}
 use Rattle.signature_class.proofs.SuffixPlaces.{candidate_of_place, later_places, place_le, place_of_candidate}
 
 -- each is above u and those before it, and at most m
@@ -36,7 +38,8 @@ pub places_climbing : (m : ℕ) (places : List ℕ) → Climbs m 0 places → Ar
 places_climbing m places up = record { within = climb_within m 0 places up; ascending = climb_ascends m 0 places up }
 
 -- the other way round
-climb_from : (m u : ℕ) (places : List ℕ) → All (λ p. u < p) places → All (λ p. (1 ≤ p) × (p ≤ m)) places → AllPairs (λ p q. p < q) places → Climbs m u places
+climb_from : (m u : ℕ) (places : List ℕ) → All (λ p. u < p) places → All (λ p. (1 ≤ p) × (p ≤ m)) places
+    → AllPairs (λ p q. p < q) places → Climbs m u places
 climb_from m u [] above within ascending = tt
 climb_from m u (p ∷ places) above within ascending = (
   above 0 0 (omega arith),
@@ -68,7 +71,8 @@ pub signature_few : (suffix ballot : List ℕ) → length (signature_of suffix b
 signature_few suffix ballot = let l = climb_length (length suffix) 0 (signature_of suffix ballot) (omega arith) (kept_climbs suffix 0 ballot) in omega arith
 
 -- each is at least 1
-pub kept_some : (suffix ballot before : List ℕ) (p : ℕ) (later : List ℕ) → before ++ p ∷ later ≡ signature_of suffix ballot → 1 ≤ p
+pub kept_some : (suffix ballot before : List ℕ) (p : ℕ) (later : List ℕ)
+    → before ++ p ∷ later ≡ signature_of suffix ballot → 1 ≤ p
 kept_some suffix ballot before p later is =
     let long = length-append before (p ∷ later) in
     let same = ap length is in
@@ -90,13 +94,15 @@ high_out m u p (q ∷ places) up high =
     rw (differ_test p q (λ e. omega arith)) (high_out m q p places up.2 high)
 
 -- one that the other list can't have
-only_here : (m u p q : ℕ) (places others : List ℕ) → Climbs m u (q ∷ others) → p < q → member p (p ∷ places) ≡ member p (q ∷ others) → ⊥
+only_here : (m u p q : ℕ) (places others : List ℕ) → Climbs m u (q ∷ others) → p < q
+    → member p (p ∷ places) ≡ member p (q ∷ others) → ⊥
 only_here m u p q places others up before same =
     let out : member p (q ∷ others) ≡ false = rw (differ_test p q (λ e. omega arith)) (low_out m q p others up.2 (omega arith)) in
     let on : member p (p ∷ places) ≡ true = rw (same_test p p refl) refl in
     let e : true ≡ false = sym on ∙ same ∙ out in cc
 
-pub climb_same : (m u : ℕ) (places others : List ℕ) → Climbs m u places → Climbs m u others → ((p : ℕ) → u < p → member p places ≡ member p others) → places ≡ others
+pub climb_same : (m u : ℕ) (places others : List ℕ) → Climbs m u places → Climbs m u others
+    → ((p : ℕ) → u < p → member p places ≡ member p others) → places ≡ others
 climb_same m u [] [] up also same = refl
 climb_same m u [] (q ∷ others) up also same =
     absurd (let on : member q (q ∷ others) ≡ true = rw (same_test q q refl) refl in let e : false ≡ true = same q also.0 ∙ on in cc)
@@ -139,11 +145,13 @@ names_holders suffix ballot i distinct some =
     holds_from suffix (i - 1) 0 ballot distinct (omega arith) ∙ ap (λ n. option_map (candidate_at suffix) (find (λ p. leb n p) (signature_of suffix ballot))) e
 
 -- ---- a list of places as a ballot
-own_from : (suffix : List ℕ) (m : ℕ) (places : List ℕ) → AreDistinct suffix → Climbs (length suffix) m places → kept_from suffix m (map (candidate_at suffix) places) ≡ places
+own_from : (suffix : List ℕ) (m : ℕ) (places : List ℕ) → AreDistinct suffix → Climbs (length suffix) m places
+    → kept_from suffix m (map (candidate_at suffix) places) ≡ places
 own_from suffix m [] distinct up = refl
 own_from suffix m (p ∷ places) distinct up =
     let above = up.0 in
     rw (place_of_candidate suffix p distinct (omega arith) up.1, lt-ltb m p above) (ap (λ ps. p ∷ ps) (own_from suffix p places distinct up.2))
 
-pub own_signature : (suffix places : List ℕ) → AreDistinct suffix → ArePlaces (length suffix) places → signature_of suffix (map (candidate_at suffix) places) ≡ places
+pub own_signature : (suffix places : List ℕ) → AreDistinct suffix → ArePlaces (length suffix) places
+    → signature_of suffix (map (candidate_at suffix) places) ≡ places
 own_signature suffix places distinct are = own_from suffix 0 places distinct (climb_of_places (length suffix) places are)

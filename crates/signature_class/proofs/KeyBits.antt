@@ -1,12 +1,14 @@
 -- Keys as sets of bits.
-use Rattle.std.proofs.Common.{ℕ, zero, suc, List, [], ◌∷◌, ◌++◌, Bool, true, false, ◌≡◌, ◌<◌, ◌≤◌, ◌+◌, ◌-◌, ◌*◌, ◌/◌, ◌%◌, ◌^◌, ◌==◌, ◌∙◌, ◌⊎◌, cond, refl, sym, subst, ap, inl, inr, arith, w64}
+use Rattle.std.proofs.Common.{ℕ, zero, suc, List, [], ◌∷◌, ◌++◌, Bool, true, false, ◌≡◌, ◌<◌, ◌≤◌, ◌+◌, ◌-◌, ◌*◌}
+use Rattle.std.proofs.Common.{◌/◌, ◌%◌, ◌^◌, ◌==◌, ◌∙◌, ◌⊎◌, cond, refl, sym, subst, ap, inl, inr, arith, w64}
 use Rattle.std.specs.Prelude.{◌||◌}
 use Rattle.std.specs.List.{range_with_len}
 use Rattle.std.specs.Int.{bit_at}
 use Rattle.std.specs.Int.RustNames.{bit_or}
 use Rattle.std.proofs.lemmas.Bool.{cases_Bool, cases_eq, cases_lt}
 use Rattle.std.proofs.lemmas.Nat.{one_shl, or_lt, pow_below, pow-add}
-use Rattle.std.proofs.lemmas.Nat.Bits.{bit_at-lt, bit_at-suc, bit_at-zero, bit_at_above, bit_at_lowest, bit_at_set_other, bit_at_set_same, same_from_bits_below}
+use Rattle.std.proofs.lemmas.Nat.Bits.{bit_at-lt, bit_at-suc, bit_at-zero, bit_at_above, bit_at_lowest}
+use Rattle.std.proofs.lemmas.Nat.Bits.{bit_at_set_other, bit_at_set_same, same_from_bits_below}
 use Rattle.irv_count.specs.Orders.{member, stands}
 use Rattle.irv_count.proofs.Members.{differ_test, member_append, same_test}
 use Rattle.mov_base.specs.Sums.{add_up}
@@ -72,15 +74,18 @@ bit_from_stands a b i same =
     ]
 
 -- a number is known by which bits are set
-pub key_is : (n key : ℕ) (test : ℕ → Bool) → key < 2 ^ n → ((i : ℕ) → i < n → stands key i ≡ test i) → key ≡ bits_of n test
+pub key_is : (n key : ℕ) (test : ℕ → Bool) → key < 2 ^ n → ((i : ℕ) → i < n → stands key i ≡ test i)
+    → key ≡ bits_of n test
 key_is n key test fits same =
     same_from_bits_below n key (bits_of n test) fits (bits_fit n test) (λ i lt. bit_from_stands key (bits_of n test) i (same i lt ∙ sym (stands_bits n test i lt)))
 
-pub bits_same : (n : ℕ) (test other : ℕ → Bool) → ((i : ℕ) → i < n → test i ≡ other i) → bits_of n test ≡ bits_of n other
+pub bits_same : (n : ℕ) (test other : ℕ → Bool) → ((i : ℕ) → i < n → test i ≡ other i)
+    → bits_of n test ≡ bits_of n other
 bits_same n test other same = key_is n (bits_of n test) other (bits_fit n test) (λ i lt. stands_bits n test i lt ∙ same i lt)
 
 -- bits that aren't set may be left out at the top
-pub bits_unset : (m n : ℕ) (test : ℕ → Bool) → m ≤ n → ((i : ℕ) → m ≤ i → i < n → test i ≡ false) → bits_of m test ≡ bits_of n test
+pub bits_unset : (m n : ℕ) (test : ℕ → Bool) → m ≤ n → ((i : ℕ) → m ≤ i → i < n → test i ≡ false)
+    → bits_of m test ≡ bits_of n test
 bits_unset m n test few unset =
     let fits = bits_fit m test in
     key_is n (bits_of m test) test (small (cases_lt m n)) (λ i lt. elim (cases_lt i m) [
@@ -126,11 +131,13 @@ bit_more key k set within is = key_is MOST_PLACES (bit_or key (1 * 2 ^ k % 2 ^ 6
     ])
 
 -- a bit too high is none
-pub bit_past : (key k : ℕ) (set : ℕ → Bool) → MOST_PLACES ≤ k → key ≡ bits_of MOST_PLACES set → key ≡ bits_of MOST_PLACES (λ y. set y || (y == k))
+pub bit_past : (key k : ℕ) (set : ℕ → Bool) → MOST_PLACES ≤ k → key ≡ bits_of MOST_PLACES set
+    → key ≡ bits_of MOST_PLACES (λ y. set y || (y == k))
 bit_past key k set past is = is ∙ bits_same MOST_PLACES set (λ y. set y || (y == k)) (λ y lt. rw (differ_test y k (λ e. omega arith)) (or_false (set y)))
 
 -- the bit of one more on a list
-pub key_more : (places : List ℕ) (p key new : ℕ) → 1 ≤ p → ((set : ℕ → Bool) → key ≡ bits_of MOST_PLACES set → new ≡ bits_of MOST_PLACES (λ y. set y || (y == p - 1)))
+pub key_more : (places : List ℕ) (p key new : ℕ) → 1 ≤ p
+    → ((set : ℕ → Bool) → key ≡ bits_of MOST_PLACES set → new ≡ bits_of MOST_PLACES (λ y. set y || (y == p - 1)))
     → key ≡ places_key places → new ≡ places_key (places ++ p ∷ [])
 key_more places p key new some more is =
     more (λ k. member (k + 1) places) is
@@ -143,7 +150,8 @@ key_more places p key new some more is =
       | inr other ↦ differ_test y (p - 1) other ∙ sym (differ_test (y + 1) p (λ e. other (omega arith)))
     ]
 
-pub members_more : (row : List ℕ) (x key new : ℕ) → ((set : ℕ → Bool) → key ≡ bits_of MOST_PLACES set → new ≡ bits_of MOST_PLACES (λ y. set y || (y == x)))
+pub members_more : (row : List ℕ) (x key new : ℕ)
+    → ((set : ℕ → Bool) → key ≡ bits_of MOST_PLACES set → new ≡ bits_of MOST_PLACES (λ y. set y || (y == x)))
     → key ≡ bits_of MOST_PLACES (λ y. member y row) → new ≡ bits_of MOST_PLACES (λ y. member y (row ++ x ∷ []))
 members_more row x key new more is =
     more (λ y. member y row) is ∙ bits_same MOST_PLACES (λ y. member y row || (y == x)) (λ y. member y (row ++ x ∷ [])) (λ y lt. sym (member_append y x row))

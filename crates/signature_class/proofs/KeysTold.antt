@@ -1,18 +1,21 @@
 -- What a key under a suffix tells, and keys under a suffix with one candidate more.
-use Rattle.std.proofs.Common.{ℕ, zero, suc, List, [], ◌∷◌, Bool, true, false, ◌≡◌, ◌<◌, ◌≤◌, ◌+◌, ◌-◌, ◌*◌, ◌^◌, ◌==◌, ◌∙◌, ◌⊎◌, cond, length, map, get_or, refl, sym, ap, inl, inr, arith}
+use Rattle.std.proofs.Common.{ℕ, zero, suc, List, [], ◌∷◌, Bool, true, false, ◌≡◌, ◌<◌, ◌≤◌, ◌+◌, ◌-◌, ◌*◌, ◌^◌}
+use Rattle.std.proofs.Common.{◌==◌, ◌∙◌, ◌⊎◌, cond, length, map, get_or, refl, sym, ap, inl, inr, arith}
 use Rattle.std.specs.Prelude.{◌||◌}
 use Rattle.std.proofs.lemmas.Bool.{cases_Bool, cases_eq, cases_lt, lt-ltb, le-ltb}
 use Rattle.std.proofs.lemmas.List.Elements.{All-weaker}
 use Rattle.irv_count.specs.Orders.{member}
 use Rattle.irv_count.proofs.Members.{differ_test, same_test}
-use Rattle.signature_class.specs.Signatures.{ArePlaces, bits_of, holds_before, kept_from, place_from, place_in, places_key, signature_of, suffix_key}
+use Rattle.signature_class.specs.Signatures.{ArePlaces, bits_of, holds_before, kept_from, place_from, place_in}
+use Rattle.signature_class.specs.Signatures.{places_key, signature_of, suffix_key}
 use Rattle.signature_class.specs.declared.limits.TheConstants.{MOST_PLACES}
 use Rattle.signature_class.proofs.KeyBits.{bits_below, bits_same, bits_step, bits_unset, same_bits}
 use Rattle.signature_class.proofs.KeptPlaces.{climb_of_places, climb_same, high_out, signature_places}
 use Rattle.signature_class.proofs.SuffixPlaces.{place_on, place_out}
 
 -- ---- equal keys
-pub key_tells_places : (places others : List ℕ) → ArePlaces MOST_PLACES places → ArePlaces MOST_PLACES others → places_key places ≡ places_key others → places ≡ others
+pub key_tells_places : (places others : List ℕ) → ArePlaces MOST_PLACES places → ArePlaces MOST_PLACES others
+    → places_key places ≡ places_key others → places ≡ others
 key_tells_places places others are also same =
     let up = climb_of_places MOST_PLACES places are in
     let other = climb_of_places MOST_PLACES others also in
@@ -29,7 +32,8 @@ more_places m n places few are = record {
   ascending = are.ascending;
 }
 
-pub key_tells_signature : (suffix ballot other : List ℕ) → length suffix ≤ MOST_PLACES → suffix_key suffix ballot ≡ suffix_key suffix other
+pub key_tells_signature : (suffix ballot other : List ℕ) → length suffix ≤ MOST_PLACES
+    → suffix_key suffix ballot ≡ suffix_key suffix other
     → signature_of suffix ballot ≡ signature_of suffix other
 key_tells_signature suffix ballot other few same = key_tells_places (signature_of suffix ballot) (signature_of suffix other)
     (more_places (length suffix) MOST_PLACES (signature_of suffix ballot) few (signature_places suffix ballot))
@@ -69,7 +73,8 @@ moved_le m (suc p) le = omega arith
 place_of_other : (z x : ℕ) (suffix : List ℕ) → (x ≡ z → ⊥) → place_in (z ∷ suffix) x ≡ moved (place_in suffix x)
 place_of_other z x suffix other = rw (differ_test z x (λ e. other (sym e))) (place_moved suffix 1 x (omega arith))
 
-kept_moved : (z : ℕ) (suffix : List ℕ) (m : ℕ) (ballot : List ℕ) → member z suffix ≡ false → kept_from (z ∷ suffix) (m + 1) ballot ≡ map suc (kept_from suffix m ballot)
+kept_moved : (z : ℕ) (suffix : List ℕ) (m : ℕ) (ballot : List ℕ) → member z suffix ≡ false
+    → kept_from (z ∷ suffix) (m + 1) ballot ≡ map suc (kept_from suffix m ballot)
 kept_moved z suffix m [] out = refl
 kept_moved z suffix m (x ∷ ballot) out = elim (cases_eq x z) [
   | inl same ↦
@@ -91,7 +96,8 @@ kept_moved z suffix m (x ∷ ballot) out = elim (cases_eq x z) [
 abbrev pub with_first : Bool → List ℕ → List ℕ
 with_first h places = cond h (1 ∷ map suc places) (map suc places)
 
-signature_moved : (z : ℕ) (suffix ballot : List ℕ) → member z suffix ≡ false → signature_of (z ∷ suffix) ballot ≡ with_first (holds_before z suffix ballot) (signature_of suffix ballot)
+signature_moved : (z : ℕ) (suffix ballot : List ℕ) → member z suffix ≡ false
+    → signature_of (z ∷ suffix) ballot ≡ with_first (holds_before z suffix ballot) (signature_of suffix ballot)
 signature_moved z suffix [] out = refl
 signature_moved z suffix (x ∷ ballot) out = elim (cases_eq x z) [
   | inl same ↦

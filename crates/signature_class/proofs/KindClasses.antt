@@ -9,7 +9,8 @@ use Rattle.signature_class.specs.Classes.{add_class, classes_by, count_of}
 use Rattle.signature_class.proofs.Counts.{add_all-append, count_le, regrouped, sum-times_one, sum_add}
 
 -- one kind more
-pub classes_more : (key : List ℕ → ℕ) (i : ℕ) (kinds : List (List ℕ × ℕ)) (row : List ℕ) (n k : ℕ) (classes : List (ℕ × ℕ)) → i < length kinds
+pub classes_more : (key : List ℕ → ℕ) (i : ℕ) (kinds : List (List ℕ × ℕ)) (row : List ℕ) (n k : ℕ) (classes : List (ℕ × ℕ))
+    → i < length kinds
     → row ≡ (get_or kinds i ([], 0)).0 → n ≡ (get_or kinds i ([], 0)).1 → k ≡ key row
     → classes ≡ classes_by key (take i kinds) → add_class nat_eq k n classes ≡ classes_by key (take (i + 1) kinds)
 classes_more key i kinds row n k classes lt row_is n_is key_is is =
@@ -38,13 +39,17 @@ first_fewer (k ∷ kinds) zero = omega arith
 first_fewer (k ∷ kinds) (suc i) = omega (arith, first_fewer kinds i)
 
 -- the classes have as many ballots as the kinds
-pub counted_more : (i : ℕ) (kinds : List (List ℕ × ℕ)) (n k : ℕ) (classes : List (ℕ × ℕ)) → i < length kinds → n ≡ (get_or kinds i ([], 0)).1
-    → add_up (λ c. c.1) classes ≡ add_up (λ k. k.1) (take i kinds) → add_up (λ c. c.1) (add_class nat_eq k n classes) ≡ add_up (λ k. k.1) (take (i + 1) kinds)
+pub counted_more : (i : ℕ) (kinds : List (List ℕ × ℕ)) (n k : ℕ) (classes : List (ℕ × ℕ)) → i < length kinds
+    → n ≡ (get_or kinds i ([], 0)).1
+    → add_up (λ c. c.1) classes ≡ add_up (λ k. k.1) (take i kinds)
+    → add_up (λ c. c.1) (add_class nat_eq k n classes) ≡ add_up (λ k. k.1) (take (i + 1) kinds)
 counted_more i kinds n k classes lt n_is is = omega (arith, sum_add nat_eq k n classes, kinds_more i kinds n lt n_is, is)
 
 -- so each class has room for those of the next kind
-pub room_of_kind : (i : ℕ) (kinds : List (List ℕ × ℕ)) (n k : ℕ) (classes : List (ℕ × ℕ)) → i < length kinds → n ≡ (get_or kinds i ([], 0)).1
-    → add_up (λ c. c.1) classes ≡ add_up (λ k. k.1) (take i kinds) → add_up (λ k. k.1) kinds ≤ MOST_BALLOTS → count_of nat_eq k classes + n ≤ MOST_BALLOTS
+pub room_of_kind : (i : ℕ) (kinds : List (List ℕ × ℕ)) (n k : ℕ) (classes : List (ℕ × ℕ)) → i < length kinds
+    → n ≡ (get_or kinds i ([], 0)).1
+    → add_up (λ c. c.1) classes ≡ add_up (λ k. k.1) (take i kinds) → add_up (λ k. k.1) kinds ≤ MOST_BALLOTS
+    → count_of nat_eq k classes + n ≤ MOST_BALLOTS
 room_of_kind i kinds n k classes lt n_is is few =
     let a = count_le nat_eq k classes in
     omega (arith, a, sum-times_one classes, kinds_more i kinds n lt n_is, first_fewer kinds (i + 1), is)

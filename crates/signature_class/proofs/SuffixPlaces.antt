@@ -1,5 +1,6 @@
 -- Places of candidates in a suffix.
-use Rattle.std.proofs.Common.{ℕ, zero, suc, List, [], ◌∷◌, true, false, ◌≡◌, ◌<◌, ◌≤◌, ◌+◌, ◌-◌, ◌==◌, ◌∙◌, ◌⊎◌, length, drop, get_or, ltb, refl, sym, ap, inl, inr, arith}
+use Rattle.std.proofs.Common.{ℕ, zero, suc, List, [], ◌∷◌, true, false, ◌≡◌, ◌<◌, ◌≤◌, ◌+◌, ◌-◌, ◌==◌, ◌∙◌, ◌⊎◌}
+use Rattle.std.proofs.Common.{length, drop, get_or, ltb, refl, sym, ap, inl, inr, arith}
 use Rattle.std.proofs.lemmas.Bool.{cases_Bool, cases_eq, lt-ltb, le-ltb}
 use Rattle.ballot_form.specs.Ballots.{AreDistinct}
 use Rattle.irv_count.specs.Orders.{member}
@@ -7,7 +8,8 @@ use Rattle.irv_count.proofs.Members.{differ_test, member_at, same_test}
 use Rattle.signature_class.specs.Signatures.{candidate_at, place_from, place_in}
 
 -- a candidate isn't in the suffix, or its place is one of these
-pub place_range : (suffix : List ℕ) (i x : ℕ) → (place_from i suffix x ≡ 0) ⊎ ((i ≤ place_from i suffix x) × (place_from i suffix x < i + length suffix))
+pub place_range : (suffix : List ℕ) (i x : ℕ)
+    → (place_from i suffix x ≡ 0) ⊎ ((i ≤ place_from i suffix x) × (place_from i suffix x < i + length suffix))
 place_range [] i x = inl refl
 place_range (y ∷ suffix) i x = elim (cases_Bool (y == x)) [
   | inl t ↦ rw t (inr (omega arith, omega arith))
@@ -50,7 +52,8 @@ first_out y suffix distinct = elim (cases_Bool (member y suffix)) [
 ]
 
 -- the place of the candidate at a place
-pub place_at : (suffix : List ℕ) (i k : ℕ) → AreDistinct suffix → k < length suffix → place_from i suffix (get_or suffix k 0) ≡ i + k
+pub place_at : (suffix : List ℕ) (i k : ℕ) → AreDistinct suffix → k < length suffix
+    → place_from i suffix (get_or suffix k 0) ≡ i + k
 place_at [] i k distinct within = absurd (omega arith)
 place_at (y ∷ suffix) i zero distinct within = rw (same_test y y refl) (omega arith)
 place_at (y ∷ suffix) i (suc k) distinct within =
@@ -58,7 +61,8 @@ place_at (y ∷ suffix) i (suc k) distinct within =
     let ih = place_at suffix (i + 1) k (tail_distinct y suffix distinct) (omega arith) in
     rw other (omega (arith, ih))
 
-pub place_of_candidate : (suffix : List ℕ) (p : ℕ) → AreDistinct suffix → 1 ≤ p → p ≤ length suffix → place_in suffix (candidate_at suffix p) ≡ p
+pub place_of_candidate : (suffix : List ℕ) (p : ℕ) → AreDistinct suffix → 1 ≤ p → p ≤ length suffix
+    → place_in suffix (candidate_at suffix p) ≡ p
 place_of_candidate suffix p distinct low high = omega (arith, place_at suffix 1 (p - 1) distinct (omega arith))
 
 -- the candidate at the place of a candidate
@@ -82,7 +86,8 @@ pub candidate_of_place : (suffix : List ℕ) (x : ℕ) → 1 ≤ place_in suffix
 candidate_of_place suffix x some = at_place suffix 1 x some
 
 -- who is at a place after so many, of distinct candidates
-pub later_places : (suffix : List ℕ) (i j x : ℕ) → AreDistinct suffix → 1 ≤ i → member x (drop j suffix) ≡ ltb (i + j - 1) (place_from i suffix x)
+pub later_places : (suffix : List ℕ) (i j x : ℕ) → AreDistinct suffix → 1 ≤ i
+    → member x (drop j suffix) ≡ ltb (i + j - 1) (place_from i suffix x)
 later_places [] i zero x distinct from = sym (le-ltb (i + 0 - 1) 0 (omega arith))
 later_places [] i (suc j) x distinct from = sym (le-ltb (i + suc j - 1) 0 (omega arith))
 later_places (y ∷ suffix) i zero x distinct from = elim (cases_eq x y) [

@@ -56,7 +56,7 @@ impl<'a> Kinds<'a> {
         Ok(())
     }
 
-    /// How many kinds there are. Their counts add up to the number of ballots.
+    /// How many kinds there are. Their counts add up to no more ballots than a roll has.
     pub fn len(&self) -> usize
         ensures value { result ≡ length self.now }
         ensures classes { IsClassList self.now }
