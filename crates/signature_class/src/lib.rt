@@ -8,9 +8,11 @@
 
 mod classes;
 mod laws;
+mod limits;
 pub mod parts;
 mod rolls;
 
 pub use classes::Classes;
 pub use laws::classes_are_counted;
+pub use limits::MOST_PLACES;
 pub use rolls::{first_kinds, kinds};

@@ -1,0 +1,2 @@
+pub mod ArcNumbers
+pub mod BestPaths

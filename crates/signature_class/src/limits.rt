@@ -1,0 +1,4 @@
+// How long a suffix may be.
+
+/// The most places of a suffix.
+pub const MOST_PLACES: u8 = 40;
