@@ -1,2 +1,5 @@
-pub mod Paths
 pub mod Bests
+pub mod Flows
+pub mod Paths
+pub mod Rows
+pub mod Walks

@@ -9,7 +9,11 @@
 #![tactic(auto)]
 
 mod arcs;
+mod laws;
 mod weights;
 
 pub use arcs::{arc_count, arc_index};
+pub use laws::{
+    arcs_have_at_most_the_total, best_is_one, flow_brings_at_most_the_best, splits_are_walks,
+};
 pub use weights::{WEIGHT_LIMIT, best_path};

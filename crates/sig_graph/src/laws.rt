@@ -1,0 +1,32 @@
+// What holds of paths, flows and walks by themselves.
+ghost use Rattle.std.specs.Prelude.{◌≡◌, ℕ, ◌<◌, ◌≤◌, List, length, count_by, ℤ, pos, ◌-ℤ◌, ◌*ℤ◌, ◌≤ℤ◌};
+ghost use Rattle.sig_graph.specs.Flows.{IsFlow, flow_at, flow_sum};
+ghost use Rattle.sig_graph.specs.Paths.{IsBest, IsPath, path_arcs, path_sum};
+ghost use Rattle.sig_graph.specs.Rows.{is_first_from, leads_over, one_where, row_weights};
+ghost use Rattle.sig_graph.specs.Walks.{AreWalks, split_of};
+
+/// One number is the best of a place.
+pub fn best_is_one()
+    ensures { (m : ℕ) (weights : List ℤ) (u : ℕ) (a b : ℤ) → IsBest m weights u a → IsBest m weights u b → a ≡ b }
+{}
+
+/// A flow brings at most its total times the best path. Numbers of one denominator count by their numerators, and so
+/// does the total.
+pub fn flow_brings_at_most_the_best()
+    ensures { (m : ℕ) (flow : List ℕ) (total : ℕ) (weights : List ℤ) (best : ℤ) →
+        IsFlow m flow total → IsBest m weights 0 best → flow_sum flow weights ≤ℤ (pos total *ℤ best) }
+{}
+
+/// No arc of a flow has more than its total.
+pub fn arcs_have_at_most_the_total()
+    ensures { (m : ℕ) (flow : List ℕ) (total : ℕ) → IsFlow m flow total →
+        (u x : ℕ) → u < x → x ≤ m → flow_at m flow u x ≤ total }
+{}
+
+/// The paths into which a flow is split are walks, each along the arc with the least end that has flow left, and no
+/// other paths are.
+pub fn splits_are_walks()
+    ensures walks { (m : ℕ) (flow : List ℕ) (total : ℕ) → AreWalks m flow (split_of m flow total) }
+    ensures alone { (m : ℕ) (flow : List ℕ) (paths : List (List ℕ)) →
+        AreWalks m flow paths → paths ≡ split_of m flow (length paths) }
+{}
