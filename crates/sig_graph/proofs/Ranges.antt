@@ -35,3 +35,11 @@ term-le g b a zero from to = absurd (omega arith)
 term-le g b a (suc n) from to = elim (cases_eq b a) [
     inl e ↦ omega (arith, ap g e)
   | inr ne ↦ omega (arith, term-le g b (a + 1) n (omega arith) (omega arith)) ]
+
+-- what is summed so far and what is left, after one term more
+pub range_step : (g : ℕ → ℕ) (s v t a n k : ℕ) → s + add_up g (range_with_len a n) ≡ t → n ≡ k + 1 → v ≡ g a →
+    s + v + add_up g (range_with_len (a + 1) k) ≡ t
+range_step g s v t a zero k is one here = absurd (omega arith)
+range_step g s v t a (suc n) k is one here =
+    let e : n ≡ k = omega arith in
+    omega (arith, is, here, ap (λ j. add_up g (range_with_len (a + 1) j)) e)

@@ -16,6 +16,7 @@ pub fn arc_index(m: u8, u: u8, x: u8) -> usize
     requires begins { u < x }
     requires ends { x ≤ m }
     ensures number { result ≡ arc_at m u x }
+    ensures within { result < arc_total m }
     ensures arc { slice_get (arcs_of m) result ≡ Some (u, x) }
 {
     let u = usize::from(u);

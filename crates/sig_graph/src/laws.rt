@@ -30,3 +30,13 @@ pub fn splits_are_walks()
     ensures alone { (m : ℕ) (flow : List ℕ) (paths : List (List ℕ)) →
         AreWalks m flow paths → paths ≡ split_of m flow (length paths) }
 {}
+
+/// In a path, one arc leads from before the place i to the place j exactly where j is the first place of the path that
+/// is at least i. So a row's weight of a ballot is the sum of weights of arcs over its signature.
+pub fn rows_by_arcs()
+    ensures arcs { (m i j : ℕ) (path : List ℕ) → 1 ≤ i → i ≤ j → IsPath m path →
+        count_by (leads_over i j) (path_arcs 0 path) ≡ one_where (is_first_from i path j) }
+    ensures weights { (m i j : ℕ) (path : List ℕ) → 1 ≤ i → i ≤ j → IsPath m path →
+        path_sum m (row_weights m i j) 0 path
+        ≡ pos (one_where (is_first_from i path j)) -ℤ pos (one_where (is_first_from i path i)) }
+{}

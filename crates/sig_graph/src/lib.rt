@@ -9,11 +9,13 @@
 #![tactic(auto)]
 
 mod arcs;
+mod flows;
 mod laws;
 mod weights;
 
 pub use arcs::{arc_count, arc_index};
+pub use flows::is_flow;
 pub use laws::{
-    arcs_have_at_most_the_total, best_is_one, flow_brings_at_most_the_best, splits_are_walks,
+    arcs_have_at_most_the_total, best_is_one, flow_brings_at_most_the_best, rows_by_arcs, splits_are_walks,
 };
 pub use weights::{WEIGHT_LIMIT, best_path};
