@@ -1,6 +1,6 @@
 -- The graph of a suffix of m candidates: the start 0, the places 1 to m, and an arc from each of these to each later
 -- place. A path is a list of places along arcs, from the start or from a place.
-use Rattle.std.specs.Prelude.{◌≡◌, ℕ, ◌+◌, ◌-◌, ◌*◌, ◌/◌, ◌<◌, ◌≤◌, List, [], ◌∷◌, map, slice_index_or, unsigned_abs, ℤ, pos, ◌≤ℤ◌}
+use Rattle.std.specs.Prelude.{◌≡◌, ℕ, ◌+◌, ◌-◌, ◌*◌, ◌/◌, ◌<◌, ◌≤◌, List, [], ◌∷◌, map, slice_index, slice_index_or, unsigned_abs, ℤ, pos, ◌≤ℤ◌}
 use Rattle.std.proofs.Common.{zero, suc}
 use Rattle.std.specs.List.{flat_map, range_with_len}
 use Rattle.mov_base.specs.Sums.{sum_z}
@@ -57,3 +57,9 @@ pub record IsBest (m : ℕ) (weights : List ℤ) (u : ℕ) (best : ℤ) : Type 0
 -- a weight within the limit
 abbrev pub IsSmallWeight : ℤ → Type 0
 IsSmallWeight w = unsigned_abs w < WEIGHT_LIMIT
+
+-- ---- ballots
+
+-- the candidates of a suffix at the places of a path, in turn
+abbrev pub ballot_of : List ℕ → List ℕ → List ℕ
+ballot_of suffix path = map (λ p. slice_index suffix (p - 1)) path
