@@ -1,7 +1,7 @@
 -- The numbers of arcs: where each stands in the order, and that no two share one.
-use Rattle.std.proofs.Common.{◌≡◌, ◌≢◌, ℕ, zero, suc, ◌+◌, ◌-◌, ◌*◌, ◌/◌, ◌<◌, ◌≤◌, List, [], ◌∷◌, ◌++◌, Option, Some, map, length, slice_get, sym, refl, ap, ◌∙◌, inl, inr, arith}
+use Rattle.std.proofs.Common.{◌≡◌, ◌≢◌, ℕ, zero, suc, ◌+◌, ◌-◌, ◌*◌, ◌/◌, ◌<◌, ◌≤◌, List, [], ◌∷◌, ◌++◌, Option, Some, map, length, slice_get, refl, ap, ◌∙◌, inl, inr, arith}
 use Rattle.std.specs.List.{flat_map, range_with_len}
-use Rattle.std.proofs.lemmas.Bool.{cases_lt, cases_eq}
+use Rattle.std.proofs.lemmas.Bool.{cases_lt}
 use Rattle.std.proofs.lemmas.List.{length-append, length-map}
 use Rattle.std.proofs.lemmas.List.FromFn.{length-range_with_len}
 use Rattle.sig_graph.specs.Paths.{arc_at, arc_total, arcs_before, arcs_of}
@@ -9,8 +9,9 @@ use Rattle.sig_graph.specs.Paths.{arc_at, arc_total, arcs_before, arcs_of}
 pub arcs_before-mono : (m a b : ℕ) → a ≤ b → arcs_before m a ≤ arcs_before m b
 arcs_before-mono m a zero h = let e : a ≡ 0 = omega arith in rw e (omega arith)
 arcs_before-mono m a (suc b) h = elim (cases_lt b a) [
-    inl lt ↦ let e : a ≡ suc b = omega arith in rw e (omega arith)
-  | inr le ↦ omega (arith, arcs_before-mono m a b le) ]
+  | inl lt ↦ let e : a ≡ suc b = omega arith in rw e (omega arith)
+  | inr le ↦ omega (arith, arcs_before-mono m a b le)
+]
 
 -- from u places on, with d more
 pub arcs_twice : (m u d : ℕ) → m ≡ u + d → 2 * arcs_before m u ≡ u * (u + 2 * d + 1)
@@ -42,12 +43,14 @@ arc_at-rows m u x a b begins ends below later =
 -- no two arcs share a number
 pub arc_at-apart : (m u x a b : ℕ) → u < x → x ≤ m → a < b → b ≤ m → (u ≡ a → x ≡ b → ⊥) → arc_at m u x ≢ arc_at m a b
 arc_at-apart m u x a b begins ends begins' ends' apart = elim (cases_lt u a) [
-    inl lt ↦ let h = arc_at-rows m u x a b begins ends lt begins' in omega (arith, h)
+  | inl lt ↦ let h = arc_at-rows m u x a b begins ends lt begins' in omega (arith, h)
   | inr ge ↦ elim (cases_lt a u) [
-      inl lt ↦ let h = arc_at-rows m a b u x begins' ends' lt begins in omega (arith, h)
+    | inl lt ↦ let h = arc_at-rows m a b u x begins' ends' lt begins in omega (arith, h)
     | inr le ↦
         let e : u ≡ a = omega arith in
-        λ same. apart e (let f = ap (arcs_before m) e in omega (arith, f)) ] ]
+        λ same. apart e (let f = ap (arcs_before m) e in omega (arith, f))
+  ]
+]
 
 -- each number is that of an arc
 pub record IsArc (m k : ℕ) : Type 0 where
@@ -60,14 +63,15 @@ pub record IsArc (m k : ℕ) : Type 0 where
 arc_before : (m u k : ℕ) → u ≤ m → k < arcs_before m u → IsArc m k
 arc_before m zero k within few = absurd (omega arith)
 arc_before m (suc u) k within few = elim (cases_lt k (arcs_before m u)) [
-    inl lt ↦ arc_before m u k (omega arith) lt
+  | inl lt ↦ arc_before m u k (omega arith) lt
   | inr ge ↦ record {
-      from = u;
-      to = suc u + (k - arcs_before m u);
-      begins = omega arith;
-      ends = omega arith;
-      is = omega arith;
-    } ]
+    from = u;
+    to = suc u + (k - arcs_before m u);
+    begins = omega arith;
+    ends = omega arith;
+    is = omega arith;
+  }
+]
 
 pub arc_of : (m k : ℕ) → k < arc_total m → IsArc m k
 arc_of m k few = arc_before m m k (omega arith) (omega (arith, arcs_before-all m))
@@ -120,7 +124,7 @@ get-rows : (m u n v x k : ℕ) → u + n ≡ m → u ≤ v → v < x → x ≤ m
     slice_get (flat_map (row_of m) (range_with_len u n)) k ≡ some_arc v x
 get-rows m u zero v x k e from begins ends at = absurd (omega arith)
 get-rows m u (suc n) v x k e from begins ends at = elim (cases_lt u v) [
-    inl lt ↦
+  | inl lt ↦
       let h = arcs_before-mono m (suc u) v (omega arith) in
       let j = k - (m - u) in
       let f : k ≡ (m - u) + j = omega (arith, h) in
@@ -132,7 +136,8 @@ get-rows m u (suc n) v x k e from begins ends at = elim (cases_lt u v) [
       let fits : k < m - u = omega (arith, before) in
       get-append_left (row_of m u) (flat_map (row_of m) (range_with_len (u + 1) n)) k (omega (arith, length-row_of m u))
       ∙ get-row u (u + 1) (m - u) k fits
-      ∙ same_arc u (u + 1 + k) v x (omega arith) (omega (arith, before)) ] where
+      ∙ same_arc u (u + 1 + k) v x (omega arith) (omega (arith, before))
+] where
   next : arcs_before m (suc u) + (k - (m - u)) ≡ arc_at m v x → arcs_before m (u + 1) + (k - (m - u)) ≡ arc_at m v x
   next h = let s : u + 1 ≡ suc u = omega arith in omega (arith, ap (arcs_before m) s, h)
 

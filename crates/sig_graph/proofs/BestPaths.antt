@@ -1,6 +1,5 @@
 -- The best of a place, from the bests of the later places: one arc more at a time.
-use Rattle.std.proofs.Common.{◌≡◌, ◌≢◌, ℕ, zero, suc, ◌+◌, ◌-◌, ◌*◌, ◌<◌, ◌≤◌, ◌⊎◌, List, [], ◌∷◌, length, get_or, get_or-set_other, get_or-set_same, refl, ap, arith, inl, inr}
-use Rattle.std.specs.Prelude.{unsigned_abs}
+use Rattle.std.proofs.Common.{◌≡◌, ◌≢◌, ℕ, zero, suc, ◌+◌, ◌-◌, ◌*◌, ◌<◌, ◌≤◌, List, [], ◌∷◌, length, get_or, get_or-set_other, get_or-set_same, refl, ap, arith, inl, inr}
 use Rattle.std.proofs.Math.IntN.{ℤ, pos, negsuc, ◌+ℤ◌}
 use Rattle.std.proofs.lemmas.Int.{ints}
 use Rattle.std.proofs.lemmas.Bool.{cases_lt}
@@ -31,8 +30,9 @@ module _ (m : ℕ) (ws : List ℤ) (u x : ℕ) (v b : ℤ) (after : u < x) (with
       (path : List ℕ) → IsPathFrom m u path → StartsBelow (x + 1) path → path_sum m ws u path ≤ℤ t
   bounded t le via [] is low = omega (arith, ints, old.above [] tt tt)
   bounded t le via (y ∷ path) is low = elim (cases_lt y x) [
-      inl lt ↦ omega (arith, ints, old.above (y ∷ path) is lt)
-    | inr ge ↦ at y (omega (arith, low)) is.2 ] where
+    | inl lt ↦ omega (arith, ints, old.above (y ∷ path) is lt)
+    | inr ge ↦ at y (omega (arith, low)) is.2
+  ] where
     at : (y : ℕ) → y ≡ x → IsPathFrom m y path → (weight_at m ws u y +ℤ path_sum m ws y path) ≤ℤ t
     at y e q = let q' = rw e at q in rw e (omega (arith, ints, next.above path q'))
 
@@ -56,8 +56,9 @@ module _ (m : ℕ) (ws : List ℤ) (u x : ℕ) (v b : ℤ) (after : u < x) (with
 pub via_more : (m : ℕ) (ws : List ℤ) (u x : ℕ) (v b r : ℤ) → u < x → x ≤ m → IsBestVia m ws u x v → IsBest m ws x b →
     IsBetter v (weight_at m ws u x +ℤ b) r → IsBestVia m ws u (x + 1) r
 via_more m ws u x v b r after within old next choice = elim choice [
-    inl k ↦ rw k.1 (via_keeps m ws u x v b after within old next k.0)
-  | inr t ↦ rw t.1 (via_takes m ws u x v b after within old next t.0) ]
+  | inl k ↦ rw k.1 (via_keeps m ws u x v b after within old next k.0)
+  | inr t ↦ rw t.1 (via_takes m ws u x v b after within old next t.0)
+]
 
 pub via_all : (m : ℕ) (ws : List ℤ) (u : ℕ) (v : ℤ) → IsBestVia m ws u (m + 1) v → IsBest m ws u v
 via_all m ws u v h = record { above = λ path is. h.above path is (starts path is); reached = (h.reached.0, h.reached.1, h.reached.3) } where
@@ -74,13 +75,15 @@ weight_high (negsuc n) small = omega (arith, ints)
 pub better_high : (m u x : ℕ) (v w b r : ℤ) → u < x → x ≤ m → v ≤ℤ pos ((m - u) * WEIGHT_LIMIT) → IsSmallWeight w →
     b ≤ℤ pos ((m - x) * WEIGHT_LIMIT) → IsBetter v (w +ℤ b) r → r ≤ℤ pos ((m - u) * WEIGHT_LIMIT)
 better_high m u x v w b r after within hv hw hb choice = let high = weight_high w hw in elim choice [
-    inl k ↦ rw k.1 hv
-  | inr t ↦ rw t.1 (omega (arith, ints)) ]
+  | inl k ↦ rw k.1 hv
+  | inr t ↦ rw t.1 (omega (arith, ints))
+]
 
 pub better_low : (v w b r : ℤ) → pos 0 ≤ℤ v → IsBetter v (w +ℤ b) r → pos 0 ≤ℤ r
 better_low v w b r hv choice = elim choice [
-    inl k ↦ rw k.1 hv
-  | inr t ↦ rw t.1 (omega (arith, ints)) ]
+  | inl k ↦ rw k.1 hv
+  | inr t ↦ rw t.1 (omega (arith, ints))
+]
 
 -- ---- the cells
 
@@ -99,8 +102,9 @@ pub cells_more : (m : ℕ) (ws : List ℤ) (u : ℕ) (cells : List ℤ) (v : ℤ
     ((k : ℕ) → u < k → k ≤ m → IsDone m ws k (get_or cells k (pos 0))) → IsDone m ws u v →
     (k : ℕ) → u ≤ k → k ≤ m → IsDone m ws k (get_or (set cells u v) k (pos 0))
 cells_more m ws u cells v fits old new k from to = elim (cases_lt u k) [
-    inl lt ↦ let ne : k ≢ u = omega arith in rw get_or-set_other (old k lt to)
-  | inr ge ↦ let e : k ≡ u = omega arith in rw (e, get_or-set_same) new ]
+  | inl lt ↦ let ne : k ≢ u = omega arith in rw get_or-set_other (old k lt to)
+  | inr ge ↦ let e : k ≡ u = omega arith in rw (e, get_or-set_same) new
+]
 
 -- there is one best
 pub best_is_unique : (m : ℕ) (ws : List ℤ) (u : ℕ) (a b : ℤ) → IsBest m ws u a → IsBest m ws u b → a ≡ b

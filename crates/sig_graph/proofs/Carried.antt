@@ -64,10 +64,13 @@ carried_on : (m : ℕ) (f : List ℕ) (u x : ℕ) → u < x → x ≤ m → leng
 carried_on m f u x lt le long some is = record { others = others; here = here } where
   at_u : 1 ≤ u → flow_out m (one_less m f u x) u ≤ flow_in m (one_less m f u x) u
   at_u past = omega (arith, out_less m f u x lt le long some, in_same m f u x lt le long some u (omega arith) (omega arith), is.here past)
+
   others : (v : ℕ) → 1 ≤ v → v ≤ m → v ≢ x → flow_out m (one_less m f u x) v ≤ flow_in m (one_less m f u x) v
   others v past within ne = elim (cases_eq v u) [
-      inl e ↦ (let P : ℕ → Type 0 = λ w. flow_out m (one_less m f u x) w ≤ flow_in m (one_less m f u x) w in rw e (at_u (omega arith)))
-    | inr nu ↦ omega (arith, out_same m f u x lt le long some v within nu, in_same m f u x lt le long some v within ne, is.others v past within nu) ]
+    | inl e ↦ (let P : ℕ → Type 0 = λ w. flow_out m (one_less m f u x) w ≤ flow_in m (one_less m f u x) w in rw e (at_u (omega arith)))
+    | inr nu ↦ omega (arith, out_same m f u x lt le long some v within nu, in_same m f u x lt le long some v within ne, is.others v past within nu)
+  ]
+
   here : 1 ≤ x → flow_out m (one_less m f u x) x ≤ flow_in m (one_less m f u x) x + 1
   here past = omega (arith, out_same m f u x lt le long some x le (omega arith), in_less m f u x lt le long some, is.others x past le (omega arith))
 
@@ -94,8 +97,9 @@ walk_after m f u x n lt end =
 pub walk_is_path : (m : ℕ) (f : List ℕ) (u x n : ℕ) → u < x → x + n ≡ m + 1 → IsPathFrom m u (walk_from m f u (range_with_len x n))
 walk_is_path m f u x zero lt end = tt
 walk_is_path m f u x (suc n) lt end = elim (cases_lt 0 (flow_at m f u x)) [
-    inl some ↦ rw (lt-ltb 0 (flow_at m f u x) some) (lt, omega arith, walk_is_path m f x (x + 1) n (omega arith) (omega arith))
-  | inr none ↦ rw (le-ltb 0 (flow_at m f u x) none) (walk_is_path m f u (x + 1) n (omega arith) (omega arith)) ]
+  | inl some ↦ rw (lt-ltb 0 (flow_at m f u x) some) (lt, omega arith, walk_is_path m f x (x + 1) n (omega arith) (omega arith))
+  | inr none ↦ rw (le-ltb 0 (flow_at m f u x) none) (walk_is_path m f u (x + 1) n (omega arith) (omega arith))
+]
 
 -- no arc from u to a place before x has flow left
 abbrev pub NoneTo : ℕ → List ℕ → ℕ → ℕ → Type 0
@@ -103,8 +107,9 @@ NoneTo m f u x = (y : ℕ) → u < y → y < x → flow_at m f u y ≡ 0
 
 pub none_more : (m : ℕ) (f : List ℕ) (u x : ℕ) → NoneTo m f u x → flow_at m f u x ≤ 0 → NoneTo m f u (x + 1)
 none_more m f u x none here y from to = elim (cases_eq y x) [
-    inl e ↦ omega (arith, ap (flow_at m f u) e)
-  | inr ne ↦ none y from (omega arith) ]
+  | inl e ↦ omega (arith, ap (flow_at m f u) e)
+  | inr ne ↦ none y from (omega arith)
+]
 
 pub none_yet : (m : ℕ) (f : List ℕ) (u : ℕ) → NoneTo m f u (u + 1)
 none_yet m f u y from to = absurd (omega arith)
@@ -120,18 +125,20 @@ length-flow_after m f u (x ∷ path) = length-flow_after m (one_less m f u x) x 
 pub walk_keeps : (m : ℕ) (f : List ℕ) (u x n : ℕ) → u < x → x + n ≡ m + 1 → length f ≡ arc_total m → NoneTo m f u x → IsCarried m f u →
     Keeps m (flow_after m f u (walk_from m f u (range_with_len x n)))
 walk_keeps m f u x zero lt end long none is = λ v past within. elim (cases_eq v u) [
-    inl e ↦
+  | inl e ↦
       let e' : x ≡ m + 1 = omega arith in
       let out = out_none m f u (omega arith) (rw e' at none) in
       let goal : flow_out m f u ≤ flow_in m f u = omega arith in
       rw e goal
-  | inr ne ↦ is.others v past within ne ]
+  | inr ne ↦ is.others v past within ne
+]
 walk_keeps m f u x (suc n) lt end long none is = elim (cases_lt 0 (flow_at m f u x)) [
-    inl some ↦ rw (lt-ltb 0 (flow_at m f u x) some, walk_after m f u x n lt (omega arith))
+  | inl some ↦ rw (lt-ltb 0 (flow_at m f u x) some, walk_after m f u x n lt (omega arith))
       (walk_keeps m (one_less m f u x) x (x + 1) n (omega arith) (omega arith) (length-one_less m f u x ∙ long)
       (none_yet m (one_less m f u x) x) (carried_on m f u x lt (omega arith) long some is))
   | inr zero_here ↦ rw (le-ltb 0 (flow_at m f u x) zero_here)
-      (walk_keeps m f u (x + 1) n (omega arith) (omega arith) long (none_more m f u x none zero_here) is) ]
+      (walk_keeps m f u (x + 1) n (omega arith) (omega arith) long (none_more m f u x none zero_here) is)
+]
 
 -- a path from u leaves the arcs from before u as they are
 pub row_after : (m : ℕ) (f : List ℕ) (u : ℕ) (path : List ℕ) (a b : ℕ) → a < u → a < b → b ≤ m → IsPathFrom m u path →
@@ -147,15 +154,16 @@ pub walk_starts : (m : ℕ) (f : List ℕ) (x n : ℕ) → 0 < x → x + n ≡ m
     ⊎ (flow_out m (flow_after m f 0 (walk_from m f 0 (range_with_len x n))) 0 + 1 ≡ flow_out m f 0)
 walk_starts m f x zero past end long none = let e : x ≡ m + 1 = omega arith in inl (out_none m f 0 (omega arith) (rw e at none))
 walk_starts m f x (suc n) past end long none = elim (cases_lt 0 (flow_at m f 0 x)) [
-    inl some ↦
+  | inl some ↦
       let after = flow_after m (one_less m f 0 x) x (walk_from m f x (range_with_len (x + 1) n)) in
       let path = walk_is_path m f x (x + 1) n (omega arith) (omega arith) in
       let same = range-same (λ b. flow_at m after 0 b) (λ b. flow_at m (one_less m f 0 x) 0 b) (0 + 1) (m - 0)
-        (λ b from to. row_after m (one_less m f 0 x) x (walk_from m f x (range_with_len (x + 1) n)) 0 b past (omega arith) (omega arith) path) in
+      (λ b from to. row_after m (one_less m f 0 x) x (walk_from m f x (range_with_len (x + 1) n)) 0 b past (omega arith) (omega arith) path) in
       let less = out_less m f 0 x past (omega arith) long some in
       rw (lt-ltb 0 (flow_at m f 0 x) some) (inr (omega (arith, same, less)))
   | inr zero_here ↦ rw (le-ltb 0 (flow_at m f 0 x) zero_here)
-      (walk_starts m f (x + 1) n (omega arith) (omega arith) long (none_more m f 0 x none zero_here)) ]
+      (walk_starts m f (x + 1) n (omega arith) (omega arith) long (none_more m f 0 x none zero_here))
+]
 
 -- at the start there is none
 pub carried_start : (m : ℕ) (f : List ℕ) → Keeps m f → IsCarried m f 0

@@ -21,20 +21,22 @@ pub range-less : (g h : ℕ → ℕ) (x a n : ℕ) → ((b : ℕ) → a ≤ b �
     add_up g (range_with_len a n) + 1 ≡ add_up h (range_with_len a n)
 range-less g h x a zero same one from to = absurd (omega arith)
 range-less g h x a (suc n) same one from to = elim (cases_eq a x) [
-    inl e ↦
+  | inl e ↦
       let later = range-same g h (a + 1) n (λ b le lt. same b (omega arith) (omega arith) (omega arith)) in
       omega (arith, later, ap g e, ap h e)
   | inr ne ↦
       let here = same a (omega arith) (omega arith) ne in
       let later = range-less g h x (a + 1) n (λ b le lt other. same b (omega arith) (omega arith) other) one (omega arith) (omega arith) in
-      omega (arith, here, later) ]
+      omega (arith, here, later)
+]
 
 -- a term is at most the sum
 pub term-le : (g : ℕ → ℕ) (b a n : ℕ) → a ≤ b → b < a + n → g b ≤ add_up g (range_with_len a n)
 term-le g b a zero from to = absurd (omega arith)
 term-le g b a (suc n) from to = elim (cases_eq b a) [
-    inl e ↦ omega (arith, ap g e)
-  | inr ne ↦ omega (arith, term-le g b (a + 1) n (omega arith) (omega arith)) ]
+  | inl e ↦ omega (arith, ap g e)
+  | inr ne ↦ omega (arith, term-le g b (a + 1) n (omega arith) (omega arith))
+]
 
 -- what is summed so far and what is left, after one term more
 pub range_step : (g : ℕ → ℕ) (s v t a n k : ℕ) → s + add_up g (range_with_len a n) ≡ t → n ≡ k + 1 → v ≡ g a →

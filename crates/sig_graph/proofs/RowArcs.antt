@@ -1,7 +1,7 @@
 -- Who holds a ballot in a round, read from the arcs of its signature.
-use Rattle.std.proofs.Common.{◌≡◌, ◌≢◌, ℕ, ◌+◌, ◌<◌, ◌≤◌, ◌&&◌, true, false, cond, List, [], ◌∷◌, get_or, map, sym, refl, ap, ◌∙◌, inl, inr, arith}
+use Rattle.std.proofs.Common.{◌≡◌, ◌≢◌, ℕ, ◌+◌, ◌<◌, ◌≤◌, ◌&&◌, true, false, cond, List, [], ◌∷◌, refl, ap, ◌∙◌, inl, inr, arith}
 use Rattle.std.specs.Prelude.{count_by, nat_le, nat_lt, ◌==◌}
-use Rattle.std.proofs.Math.IntN.{ℤ, pos, ◌+ℤ◌, ◌-ℤ◌}
+use Rattle.std.proofs.Math.IntN.{pos, ◌-ℤ◌}
 use Rattle.std.proofs.lemmas.Int.{ints}
 use Rattle.std.proofs.lemmas.Bool.{cases_lt}
 use Rattle.std.proofs.lemmas.Bool.Decides.{nat_tests}
@@ -41,13 +41,14 @@ over-late m i j u (x ∷ path) late is =
 pub over_is_first : (m i j u : ℕ) (path : List ℕ) → u < i → i ≤ j → IsPathFrom m u path → over i j u path ≡ one_where (is_first_from i path j)
 over_is_first m i j u [] lt le is = refl
 over_is_first m i j u (x ∷ path) lt le is = elim (cases_lt x i) [
-    inl low ↦
+  | inl low ↦
       let test : nat_le i x ≡ false = grind (arith, nat_tests) in
       let later = over_is_first m i j x path low le is.2 in
       rw test (omega (arith, over-cons i j u x path, one_over-past i j u x (omega arith), later))
   | inr at ↦
       let test : nat_le i x ≡ true = grind (arith, nat_tests) in
-      rw test (omega (arith, over-cons i j u x path, one_over-here i j u x lt, over-late m i j x path at is.2)) ]
+      rw test (omega (arith, over-cons i j u x path, one_over-here i j u x lt, over-late m i j x path at is.2))
+]
 
 -- ---- the row of i and j
 

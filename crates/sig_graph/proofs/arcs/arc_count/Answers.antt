@@ -1,5 +1,5 @@
-use Rattle.std.proofs.Common.{◌≡◌, length, sym, ◌∙◌, ap}
-use Rattle.sig_graph.specs.Paths.{arc_total, arcs_of}
+use Rattle.std.proofs.Common.{sym, ◌∙◌, ap}
+use Rattle.sig_graph.specs.Paths.{arc_total}
 use Rattle.sig_graph.proofs.ArcNumbers.{length-arcs_of}
 use Rattle.sig_graph.proofs.arcs.arc_count.Goals as goal
 

@@ -1,5 +1,5 @@
-use Rattle.std.proofs.Common.{◌≡◌, ◌+◌, ◌-◌, ◌*◌, ◌/◌, ◌∙◌, slice_get, ap, arith}
-use Rattle.sig_graph.specs.Paths.{arc_at, arcs_of}
+use Rattle.std.proofs.Common.{◌∙◌, slice_get, ap, arith}
+use Rattle.sig_graph.specs.Paths.{arcs_of}
 use Rattle.sig_graph.proofs.ArcNumbers.{arc_at-product, arc_at-within, get-arcs_of}
 use Rattle.sig_graph.proofs.arcs.arc_index.Goals as goal
 

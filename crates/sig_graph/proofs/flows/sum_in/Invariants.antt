@@ -1,4 +1,4 @@
-use Rattle.std.proofs.Common.{◌≡◌, ◌≤◌, ℕ, ◌+◌, ◌-◌, ◌*◌, ◌^◌}
+use Rattle.std.proofs.Common.{◌≡◌, ◌≤◌, ◌+◌, ◌-◌, ◌*◌, ◌^◌}
 use Rattle.std.specs.List.{range_with_len}
 use Rattle.mov_base.specs.Sums.{add_up}
 use Rattle.sig_graph.specs.Flows.{flow_at, flow_in}

@@ -1,4 +1,4 @@
-use Rattle.std.proofs.Common.{◌≡◌, ◌+◌, ◌-◌, ◌∙◌, ap, arith}
+use Rattle.std.proofs.Common.{◌∙◌, ap, arith}
 use Rattle.sig_graph.specs.Walks.{flow_after}
 use Rattle.sig_graph.proofs.Walking.{split_done, split_on}
 use Rattle.sig_graph.proofs.walks.take_walks.Goals as goal

@@ -1,5 +1,5 @@
-use Rattle.std.proofs.Common.{◌≡◌, ℕ, ◌+◌, ◌*◌, ◌-◌, ◌≤◌, ◌<◌, ◌^◌, ℤ, length, get_or, rules, arith}
-use Rattle.std.proofs.lemmas.Int.{ints, to_z-of_z}
+use Rattle.std.proofs.Common.{◌+◌, ◌-◌, ◌<◌, length, get_or, rules, arith}
+use Rattle.std.proofs.lemmas.Int.{to_z-of_z}
 use Rattle.std.proofs.Math.IntN.{pos}
 use mir.Val.{SFits}
 use mir.Syntax.{w128}
@@ -40,6 +40,7 @@ loop-x-preserved c =
     let small : IsSmallWeight weight = c.requires.small (c.args.first + (c.loop-x.x - c.args.u - 1)) (pos 0) (within_after c) in
     let done = c.requires.later c.loop-x.x (omega arith) (omega arith) in
     rw to_z-of_z (
-      via_more c.args.m c.args.weights.now c.args.u c.loop-x.x _ _ _ (omega arith) (omega arith) c.loop-x.invariant.0 done.greatest at
-    , better_low _ weight later _ c.loop-x.invariant.1 better
-    , better_high _ _ c.loop-x.x _ _ _ _ (omega arith) (omega arith) c.loop-x.invariant.2 small done.at_most better)
+      via_more c.args.m c.args.weights.now c.args.u c.loop-x.x _ _ _ (omega arith) (omega arith) c.loop-x.invariant.0 done.greatest at,
+      better_low _ weight later _ c.loop-x.invariant.1 better,
+      better_high _ _ c.loop-x.x _ _ _ _ (omega arith) (omega arith) c.loop-x.invariant.2 small done.at_most better,
+    )

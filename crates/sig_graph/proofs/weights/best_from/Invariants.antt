@@ -1,4 +1,4 @@
-use Rattle.std.proofs.Common.{ℕ, ◌*◌, ◌-◌}
+use Rattle.std.proofs.Common.{◌*◌, ◌-◌}
 use Rattle.std.proofs.Math.IntN.{pos}
 use lib.Signed.{◌≤ℤ◌}
 use Rattle.sig_graph.proofs.BestPaths.{IsBestVia}

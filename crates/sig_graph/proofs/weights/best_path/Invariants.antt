@@ -1,4 +1,4 @@
-use Rattle.std.proofs.Common.{◌≡◌, ℕ, ◌+◌, ◌≤◌, length, get_or}
+use Rattle.std.proofs.Common.{◌≡◌, ℕ, ◌≤◌, get_or}
 use Rattle.std.proofs.Math.IntN.{pos}
 use Rattle.sig_graph.specs.Paths.{arcs_before}
 use Rattle.sig_graph.specs.Bests.{IsDone}
