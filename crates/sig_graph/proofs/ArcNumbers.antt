@@ -1,9 +1,10 @@
 -- The numbers of arcs: where each stands in the order, and that no two share one.
-use Rattle.std.proofs.Common.{◌≡◌, ◌≢◌, ℕ, zero, suc, ◌+◌, ◌-◌, ◌*◌, ◌/◌, ◌<◌, ◌≤◌, List, [], ◌∷◌, ◌++◌, Option, Some, map, length, slice_get, refl, ap, ◌∙◌, inl, inr, arith}
+use Rattle.std.proofs.Common.{◌≡◌, ◌≢◌, ℕ, zero, suc, ◌+◌, ◌-◌, ◌*◌, ◌/◌, ◌<◌, ◌≤◌, List, [], ◌∷◌, ◌++◌, Option, Some, map, length, get_or, slice_get, refl, ap, ◌∙◌, inl, inr, arith}
 use Rattle.std.specs.List.{flat_map, range_with_len}
 use Rattle.std.proofs.lemmas.Bool.{cases_lt}
-use Rattle.std.proofs.lemmas.List.{length-append, length-map}
+use Rattle.std.proofs.lemmas.List.{get_or-map, length-append, length-map}
 use Rattle.std.proofs.lemmas.List.FromFn.{length-range_with_len}
+use Rattle.std.proofs.lemmas.Option.{get_or_from_slice_get, slice_get_within}
 use Rattle.sig_graph.specs.Paths.{arc_at, arc_total, arcs_before, arcs_of}
 
 pub arcs_before-mono : (m a b : ℕ) → a ≤ b → arcs_before m a ≤ arcs_before m b
@@ -144,3 +145,10 @@ get-rows m u (suc n) v x k e from begins ends at = elim (cases_lt u v) [
 -- the arc from u to x stands at its number
 pub get-arcs_of : (m u x : ℕ) → u < x → x ≤ m → slice_get (arcs_of m) (arc_at m u x) ≡ some_arc u x
 get-arcs_of m u x begins ends = get-rows m 0 m u x (arc_at m u x) (omega arith) (omega arith) begins ends (omega arith)
+
+-- a value of each arc stands at the arc's number
+pub get_or-each : {Y : Type 0} (g : ℕ × ℕ → Y) (m u x : ℕ) (d : Y) → u < x → x ≤ m → get_or (map g (arcs_of m)) (arc_at m u x) d ≡ g (u, x)
+get_or-each g m u x d begins ends =
+    let at = get-arcs_of m u x begins ends in
+    get_or-map g (arcs_of m) (arc_at m u x) (u, x) d (slice_get_within (arcs_of m) (arc_at m u x) (u, x) at)
+    ∙ ap g (get_or_from_slice_get (arcs_of m) (arc_at m u x) (u, x) (u, x) at)

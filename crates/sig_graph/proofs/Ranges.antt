@@ -16,6 +16,11 @@ range-none g a zero none = refl
 range-none g a (suc n) none =
     omega (arith, none a (omega arith) (omega arith), range-none g (a + 1) n (λ b from to. none b (omega arith) (omega arith)))
 
+-- sums of two terms
+pub range-add : (g h : ℕ → ℕ) (a n : ℕ) → add_up (λ b. g b + h b) (range_with_len a n) ≡ add_up g (range_with_len a n) + add_up h (range_with_len a n)
+range-add g h a zero = refl
+range-add g h a (suc n) = omega (arith, range-add g h (a + 1) n)
+
 -- one less at x
 pub range-less : (g h : ℕ → ℕ) (x a n : ℕ) → ((b : ℕ) → a ≤ b → b < a + n → b ≢ x → g b ≡ h b) → g x + 1 ≡ h x → a ≤ x → x < a + n →
     add_up g (range_with_len a n) + 1 ≡ add_up h (range_with_len a n)

@@ -10,7 +10,7 @@ use Rattle.std.proofs.lemmas.List.Sums.{sum_by-cons}
 use Rattle.std.proofs.lemmas.Option.{get_or_from_slice_get, slice_get_within}
 use Rattle.sig_graph.specs.Paths.{arc_at, arcs_of, path_arcs, path_sum, weight_at, IsPathFrom}
 use Rattle.sig_graph.specs.Rows.{is_first_from, leads_over, one_where, row_weight_of, row_weights}
-use Rattle.sig_graph.proofs.ArcNumbers.{get-arcs_of}
+use Rattle.sig_graph.proofs.ArcNumbers.{get_or-each}
 
 -- how many arcs of a path from u lead from before i to j
 abbrev pub over : ℕ → ℕ → ℕ → List ℕ → ℕ
@@ -53,10 +53,7 @@ over_is_first m i j u (x ∷ path) lt le is = elim (cases_lt x i) [
 -- ---- the row of i and j
 
 weight_at-row : (m i j u x : ℕ) → u < x → x ≤ m → weight_at m (row_weights m i j) u x ≡ pos (one_over i j u x) -ℤ pos (one_over i i u x)
-weight_at-row m i j u x lt le =
-    let at = get-arcs_of m u x lt le in
-    get_or-map (row_weight_of i j) (arcs_of m) (arc_at m u x) (u, x) (pos 0) (slice_get_within (arcs_of m) (arc_at m u x) (u, x) at)
-    ∙ ap (row_weight_of i j) (get_or_from_slice_get (arcs_of m) (arc_at m u x) (u, x) (u, x) at)
+weight_at-row m i j u x lt le = get_or-each (row_weight_of i j) m u x (pos 0) lt le
 
 path_sum-row : (m i j u : ℕ) (path : List ℕ) → IsPathFrom m u path → path_sum m (row_weights m i j) u path ≡ pos (over i j u path) -ℤ pos (over i i u path)
 path_sum-row m i j u [] is = omega (arith, ints)

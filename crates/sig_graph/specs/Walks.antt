@@ -1,10 +1,10 @@
 -- The paths that a flow is made of: walks from the start, one after another, each in what the walks before it leave.
-use Rattle.std.specs.Prelude.{◌≡◌, ℕ, ◌-◌, ◌<◌, ◌≤◌, ◌==◌, ◌&&◌, nat_lt, Bool, List, [], ◌∷◌, slice_set, count_by, if◌then◌else◌}
+use Rattle.std.specs.Prelude.{◌≡◌, ℕ, ◌-◌, ◌<◌, ◌≤◌, ◌==◌, ◌&&◌, nat_lt, Bool, List, [], ◌∷◌, map, slice_set, count_by, if◌then◌else◌}
 use Rattle.std.proofs.Common.{zero, suc}
 use Rattle.std.specs.List.{range_with_len}
 use Rattle.mov_base.specs.Sums.{add_up}
 use Rattle.sig_graph.specs.Flows.{flow_at}
-use Rattle.sig_graph.specs.Paths.{arc_at, path_arcs}
+use Rattle.sig_graph.specs.Paths.{arc_at, arcs_of, path_arcs}
 
 -- ---- a walk
 
@@ -64,3 +64,7 @@ path_uses u x path = count_by (is_arc u x) (path_arcs 0 path)
 -- how often paths use it together
 abbrev pub uses_of : List (List ℕ) → ℕ → ℕ → ℕ
 uses_of paths u x = add_up (path_uses u x) paths
+
+-- how often paths use each arc, in the order of arcs
+abbrev pub flow_of : ℕ → List (List ℕ) → List ℕ
+flow_of m paths = map (λ a. uses_of paths a.0 a.1) (arcs_of m)

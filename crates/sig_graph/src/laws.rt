@@ -1,20 +1,36 @@
 // What holds of paths, flows and walks by themselves.
-ghost use Rattle.std.specs.Prelude.{◌≡◌, ℕ, ◌<◌, ◌≤◌, List, length, count_by, ℤ, pos, ◌-ℤ◌, ◌*ℤ◌, ◌≤ℤ◌};
+ghost use Rattle.std.specs.Prelude.{◌≡◌, ℕ, ◌<◌, ◌≤◌, All, List, length, count_by, ℤ, pos, ◌-ℤ◌, ◌*ℤ◌, ◌≤ℤ◌};
+ghost use Rattle.mov_base.specs.Sums.{sum_z};
 ghost use Rattle.sig_graph.specs.Flows.{IsFlow, flow_at, flow_sum};
 ghost use Rattle.sig_graph.specs.Paths.{IsBest, IsPath, path_arcs, path_sum};
 ghost use Rattle.sig_graph.specs.Rows.{is_first_from, leads_over, one_where, row_weights};
-ghost use Rattle.sig_graph.specs.Walks.{AreWalks, split_of};
+ghost use Rattle.sig_graph.specs.Walks.{AreWalks, flow_of, path_uses, split_of};
 
 /// One number is the best of a place.
 pub fn best_is_one()
     ensures { (m : ℕ) (weights : List ℤ) (u : ℕ) (a b : ℤ) → IsBest m weights u a → IsBest m weights u b → a ≡ b }
 {}
 
-/// A flow brings at most its total times the best path. Numbers of one denominator count by their numerators, and so
-/// does the total.
-pub fn flow_brings_at_most_the_best()
-    ensures { (m : ℕ) (flow : List ℕ) (total : ℕ) (weights : List ℤ) (best : ℤ) →
+/// A flow brings what the paths bring into which it is split, and so at most its total times the best path. Numbers of
+/// one denominator count by their numerators, and so does the total.
+pub fn flow_brings_what_its_paths_bring()
+    ensures paths { (m : ℕ) (flow : List ℕ) (total : ℕ) (weights : List ℤ) → IsFlow m flow total →
+        flow_sum flow weights ≡ sum_z (λ path. path_sum m weights 0 path) (split_of m flow total) }
+    ensures best { (m : ℕ) (flow : List ℕ) (total : ℕ) (weights : List ℤ) (best : ℤ) →
         IsFlow m flow total → IsBest m weights 0 best → flow_sum flow weights ≤ℤ (pos total *ℤ best) }
+{}
+
+/// Paths make a flow, whose total is their number and which brings what they bring together.
+pub fn paths_make_a_flow()
+    ensures flow { (m : ℕ) (paths : List (List ℕ)) → All (IsPath m) paths →
+        IsFlow m (flow_of m paths) (length paths) }
+    ensures sum { (m : ℕ) (weights : List ℤ) (paths : List (List ℕ)) → All (IsPath m) paths →
+        flow_sum (flow_of m paths) weights ≡ sum_z (λ path. path_sum m weights 0 path) paths }
+{}
+
+/// A path uses an arc at most once.
+pub fn paths_use_arcs_once()
+    ensures { (m : ℕ) (path : List ℕ) (u x : ℕ) → IsPath m path → path_uses u x path ≤ 1 }
 {}
 
 /// No arc of a flow has more than its total.

@@ -1,4 +1,4 @@
-use Rattle.sig_graph.proofs.Splits.{split_is_walks, walks_are_split}
+use Rattle.sig_graph.proofs.LeastEnds.{split_is_walks, walks_are_split}
 use Rattle.sig_graph.proofs.laws.splits_are_walks.Goals as goal
 
 pub returns-clause-walks : goal.returns-clause-walks
