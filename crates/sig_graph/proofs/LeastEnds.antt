@@ -1,8 +1,9 @@
 -- Each walk goes on along the arc with the least end that has flow left, and no other list of paths does.
-use Rattle.std.proofs.Common.{◌≡◌, ℕ, zero, suc, ◌+◌, ◌<◌, ◌≤◌, List, [], ◌∷◌, length, sym, refl, ap, ◌∙◌, inl, inr, arith}
+use Rattle.std.proofs.Common.{◌≡◌, ℕ, zero, suc, ◌+◌, ◌<◌, ◌≤◌, List, [], ◌∷◌, length, refl, ap, inl, inr, arith}
 use Rattle.std.specs.List.{range_with_len}
 use Rattle.std.proofs.lemmas.Bool.{cases_lt, lt-ltb, le-ltb}
 use Rattle.sig_graph.specs.Flows.{flow_at}
+use Rattle.sig_graph.specs.Paths.{IsPathFrom}
 use Rattle.sig_graph.specs.Walks.{flow_after, split_of, walk_from, walk_of, AreWalks, IsNext, IsWalk}
 use Rattle.sig_graph.proofs.Carried.{none_more, none_yet, NoneTo}
 
@@ -57,3 +58,12 @@ walks_are_split m f (path ∷ paths) are =
     let first = walk_only m f 0 1 m path (omega arith) (omega arith) (none_yet m f 0) are.0 in
     let later = walks_are_split m (flow_after m f 0 path) paths are.1 in
     rw (← first) (ap (λ ps. path ∷ ps) later)
+
+-- a walk from the start is the one through all places
+pub walk_is_one : (m : ℕ) (f path : List ℕ) → IsWalk m f 0 path → path ≡ walk_of m f
+walk_is_one m f path is = walk_only m f 0 1 m path (omega arith) (omega arith) (none_yet m f 0) is
+
+-- and a path
+pub walked_is_path : (m : ℕ) (f : List ℕ) (u : ℕ) (path : List ℕ) → IsWalk m f u path → IsPathFrom m u path
+walked_is_path m f u [] is = tt
+walked_is_path m f u (x ∷ path) is = (is.0.later, is.0.within, walked_is_path m f x path is.1)

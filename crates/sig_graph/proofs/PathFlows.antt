@@ -1,8 +1,8 @@
 -- Paths make a flow: their number is its total, and what they bring together it brings.
-use Rattle.std.proofs.Common.{◌≡◌, ◌≢◌, ℕ, zero, suc, ◌+◌, ◌-◌, ◌<◌, ◌≤◌, cond, List, [], ◌∷◌, length, get_or, map, All, sym, refl, ap, ◌∙◌, inl, inr, arith}
+use Rattle.std.proofs.Common.{◌≡◌, ◌≢◌, ℕ, ◌+◌, ◌-◌, ◌<◌, ◌≤◌, cond, List, [], ◌∷◌, length, get_or, map, All, sym, refl, ap, ◌∙◌, inl, inr, arith}
 use Rattle.std.specs.Prelude.{◌==◌}
 use Rattle.std.specs.List.{range_with_len}
-use Rattle.std.proofs.Math.IntN.{ℤ, pos, ◌+ℤ◌}
+use Rattle.std.proofs.Math.IntN.{ℤ, ◌+ℤ◌}
 use Rattle.std.proofs.lemmas.Int.{ints}
 use Rattle.std.proofs.lemmas.Bool.{cases_eq}
 use Rattle.std.proofs.lemmas.Bool.Decides.{nat_tests}
@@ -38,15 +38,17 @@ range-one g x a n none one from to =
 
 one_out : (m v u x : ℕ) → u < x → x ≤ m → add_up (λ y. one_use v y u x) (range_with_len (v + 1) (m - v)) ≡ same v u
 one_out m v u x lt le = elim (cases_eq v u) [
-    inl e ↦ range-one (λ y. one_use v y u x) x (v + 1) (m - v) (λ y from to ne. one_use-other v y u x (λ _ d. ne (sym d)))
+  | inl e ↦ range-one (λ y. one_use v y u x) x (v + 1) (m - v) (λ y from to ne. one_use-other v y u x (λ _ d. ne (sym d)))
       (one_use-same v x u x (sym e) refl) (omega arith) (omega arith) ∙ sym (same-yes v u e)
-  | inr ne ↦ range-none (λ y. one_use v y u x) (v + 1) (m - v) (λ y from to. one_use-other v y u x (λ e _. ne (sym e))) ∙ sym (same-no v u ne) ]
+  | inr ne ↦ range-none (λ y. one_use v y u x) (v + 1) (m - v) (λ y from to. one_use-other v y u x (λ e _. ne (sym e))) ∙ sym (same-no v u ne)
+]
 
 one_in : (v u x : ℕ) → u < x → add_up (λ a. one_use a v u x) (range_with_len 0 v) ≡ same v x
 one_in v u x lt = elim (cases_eq v x) [
-    inl e ↦ range-one (λ a. one_use a v u x) u 0 v (λ a from to ne. one_use-other a v u x (λ d _. ne (sym d)))
+  | inl e ↦ range-one (λ a. one_use a v u x) u 0 v (λ a from to ne. one_use-other a v u x (λ d _. ne (sym d)))
       (one_use-same u v u x refl (sym e)) (omega arith) (omega arith) ∙ sym (same-yes v x e)
-  | inr ne ↦ range-none (λ a. one_use a v u x) 0 v (λ a from to. one_use-other a v u x (λ _ d. ne (sym d))) ∙ sym (same-no v x ne) ]
+  | inr ne ↦ range-none (λ a. one_use a v u x) 0 v (λ a from to. one_use-other a v u x (λ _ d. ne (sym d))) ∙ sym (same-no v x ne)
+]
 
 abbrev pub out_from : ℕ → ℕ → ℕ → List ℕ → ℕ
 out_from m v u path = add_up (λ y. uses_from v y u path) (range_with_len (v + 1) (m - v))
@@ -67,7 +69,7 @@ path_keeps m v u (x ∷ path) is =
 
 -- ---- the flow of paths
 
-flow_at-of : (m : ℕ) (paths : List (List ℕ)) (u x : ℕ) → u < x → x ≤ m → flow_at m (flow_of m paths) u x ≡ uses_of paths u x
+pub flow_at-of : (m : ℕ) (paths : List (List ℕ)) (u x : ℕ) → u < x → x ≤ m → flow_at m (flow_of m paths) u x ≡ uses_of paths u x
 flow_at-of m paths u x lt le = get_or-each (λ a. uses_of paths a.0 a.1) m u x 0 lt le
 
 paths_keep : (m v : ℕ) (paths : List (List ℕ)) → All (IsPath m) paths →
@@ -92,12 +94,16 @@ pub paths_are_flow : (m : ℕ) (paths : List (List ℕ)) → All (IsPath m) path
 paths_are_flow m paths are = record { each = each; start = start; places = places } where
   each : length (flow_of m paths) ≡ arc_total m
   each = length-map (arcs_of m) (λ a. uses_of paths a.0 a.1) ∙ length-arcs_of m
+
   out : (v : ℕ) → v ≤ m → flow_out m (flow_of m paths) v ≡ add_up (λ y. uses_of paths v y) (range_with_len (v + 1) (m - v))
   out v le = range-same (λ y. flow_at m (flow_of m paths) v y) (λ y. uses_of paths v y) (v + 1) (m - v) (λ y from to. flow_at-of m paths v y (omega arith) (omega arith))
+
   come : (v : ℕ) → v ≤ m → flow_in m (flow_of m paths) v ≡ add_up (λ a. uses_of paths a v) (range_with_len 0 v)
   come v le = range-same (λ a. flow_at m (flow_of m paths) a v) (λ a. uses_of paths a v) 0 v (λ a from to. flow_at-of m paths a v (omega arith) le)
+
   start : flow_out m (flow_of m paths) 0 ≤ length paths
   start = omega (arith, out 0 (omega arith), paths_keep m 0 paths are, starts paths)
+
   places : (v : ℕ) → 1 ≤ v → v ≤ m → flow_out m (flow_of m paths) v ≤ flow_in m (flow_of m paths) v
   places v some le = omega (arith, out v le, come v le, paths_keep m v paths are, none_start v paths (omega arith))
 
@@ -109,17 +115,19 @@ one_less-each : (m : ℕ) (U V : ℕ × ℕ → ℕ) (u x : ℕ) → u < x → x
 one_less-each m U V u x lt le is =
     ext_get_or 0 (one_less m (map U (arcs_of m)) u x) (map V (arcs_of m)) (omega (arith, long, length-one_less m (map U (arcs_of m)) u x, length-map (arcs_of m) V, length-arcs_of m))
     (λ k within. each k (omega (arith, within, long, length-one_less m (map U (arcs_of m)) u x))) where
-  long : length (map U (arcs_of m)) ≡ arc_total m
-  long = length-map (arcs_of m) U ∙ length-arcs_of m
-  some : 1 ≤ flow_at m (map U (arcs_of m)) u x
-  some = omega (arith, get_or-each U m u x 0 lt le, is u x, one_use-same u x u x refl refl)
-  each : (k : ℕ) → k < arc_total m → get_or (one_less m (map U (arcs_of m)) u x) k 0 ≡ get_or (map V (arcs_of m)) k 0
-  each k within =
-      let a = arc_of m k within in
-      let one = taken m (map U (arcs_of m)) u x a.from a.to lt le a.begins a.ends long some in
-      let left : flow_at m (one_less m (map U (arcs_of m)) u x) a.from a.to ≡ V (a.from, a.to) = omega (arith, one, get_or-each U m a.from a.to 0 a.begins a.ends, is a.from a.to) in
-      ap (λ i. get_or (one_less m (map U (arcs_of m)) u x) i 0) (sym a.is) ∙ left
-      ∙ sym (get_or-each V m a.from a.to 0 a.begins a.ends) ∙ ap (λ i. get_or (map V (arcs_of m)) i 0) a.is
+      long : length (map U (arcs_of m)) ≡ arc_total m
+      long = length-map (arcs_of m) U ∙ length-arcs_of m
+
+      some : 1 ≤ flow_at m (map U (arcs_of m)) u x
+      some = omega (arith, get_or-each U m u x 0 lt le, is u x, one_use-same u x u x refl refl)
+
+      each : (k : ℕ) → k < arc_total m → get_or (one_less m (map U (arcs_of m)) u x) k 0 ≡ get_or (map V (arcs_of m)) k 0
+      each k within =
+          let a = arc_of m k within in
+          let one = taken m (map U (arcs_of m)) u x a.from a.to lt le a.begins a.ends long some in
+          let left : flow_at m (one_less m (map U (arcs_of m)) u x) a.from a.to ≡ V (a.from, a.to) = omega (arith, one, get_or-each U m a.from a.to 0 a.begins a.ends, is a.from a.to) in
+          ap (λ i. get_or (one_less m (map U (arcs_of m)) u x) i 0) (sym a.is) ∙ left
+          ∙ sym (get_or-each V m a.from a.to 0 a.begins a.ends) ∙ ap (λ i. get_or (map V (arcs_of m)) i 0) a.is
 
 sum_one : (m : ℕ) (ws : List ℤ) (U V : ℕ × ℕ → ℕ) (u x : ℕ) → u < x → x ≤ m → ((a b : ℕ) → U (a, b) ≡ one_use a b u x + V (a, b)) →
     flow_sum (map U (arcs_of m)) ws ≡ flow_sum (map V (arcs_of m)) ws +ℤ weight_at m ws u x
@@ -136,7 +144,7 @@ sum_path m ws V u [] is = let e = map-alike (λ a. 0 + V a) V (arcs_of m) (λ a.
   map-alike g h (a ∷ arcs) alike = let first = alike a in let later = map-alike g h arcs alike in cc
 sum_path m ws V u (x ∷ path) is =
     let one = sum_one m ws (λ a. uses_from a.0 a.1 u (x ∷ path) + V a) (λ a. uses_from a.0 a.1 x path + V a) u x is.0 is.1
-      (λ a b. omega (arith, uses_from-cons a b u x path)) in
+    (λ a b. omega (arith, uses_from-cons a b u x path)) in
     let later = sum_path m ws V x path is.2 in
     omega (arith, ints, one, later)
 

@@ -1,14 +1,12 @@
 -- Who holds a ballot in a round, read from the arcs of its signature.
-use Rattle.std.proofs.Common.{◌≡◌, ◌≢◌, ℕ, ◌+◌, ◌<◌, ◌≤◌, ◌&&◌, true, false, cond, List, [], ◌∷◌, refl, ap, ◌∙◌, inl, inr, arith}
+use Rattle.std.proofs.Common.{◌≡◌, ◌≢◌, ℕ, ◌+◌, ◌<◌, ◌≤◌, ◌&&◌, true, false, cond, List, [], ◌∷◌, refl, inl, inr, arith}
 use Rattle.std.specs.Prelude.{count_by, nat_le, nat_lt, ◌==◌}
 use Rattle.std.proofs.Math.IntN.{pos, ◌-ℤ◌}
 use Rattle.std.proofs.lemmas.Int.{ints}
 use Rattle.std.proofs.lemmas.Bool.{cases_lt}
 use Rattle.std.proofs.lemmas.Bool.Decides.{nat_tests}
-use Rattle.std.proofs.lemmas.List.{get_or-map}
 use Rattle.std.proofs.lemmas.List.Sums.{sum_by-cons}
-use Rattle.std.proofs.lemmas.Option.{get_or_from_slice_get, slice_get_within}
-use Rattle.sig_graph.specs.Paths.{arc_at, arcs_of, path_arcs, path_sum, weight_at, IsPathFrom}
+use Rattle.sig_graph.specs.Paths.{path_arcs, path_sum, weight_at, IsPathFrom}
 use Rattle.sig_graph.specs.Rows.{is_first_from, leads_over, one_where, row_weight_of, row_weights}
 use Rattle.sig_graph.proofs.ArcNumbers.{get_or-each}
 

@@ -4,7 +4,7 @@ ghost use Rattle.mov_base.specs.Sums.{sum_z};
 ghost use Rattle.sig_graph.specs.Flows.{IsFlow, flow_at, flow_sum};
 ghost use Rattle.sig_graph.specs.Paths.{IsBest, IsPath, path_arcs, path_sum};
 ghost use Rattle.sig_graph.specs.Rows.{is_first_from, leads_over, one_where, row_weights};
-ghost use Rattle.sig_graph.specs.Walks.{AreWalks, flow_of, path_uses, split_of};
+ghost use Rattle.sig_graph.specs.Walks.{AreWalks, flow_of, path_uses, split_of, uses_of};
 
 /// One number is the best of a place.
 pub fn best_is_one()
@@ -24,6 +24,8 @@ pub fn flow_brings_what_its_paths_bring()
 pub fn paths_make_a_flow()
     ensures flow { (m : ℕ) (paths : List (List ℕ)) → All (IsPath m) paths →
         IsFlow m (flow_of m paths) (length paths) }
+    ensures uses { (m : ℕ) (paths : List (List ℕ)) (u x : ℕ) → u < x → x ≤ m →
+        flow_at m (flow_of m paths) u x ≡ uses_of paths u x }
     ensures sum { (m : ℕ) (weights : List ℤ) (paths : List (List ℕ)) → All (IsPath m) paths →
         flow_sum (flow_of m paths) weights ≡ sum_z (λ path. path_sum m weights 0 path) paths }
 {}

@@ -1,8 +1,8 @@
 // The paths that a flow is made of.
-ghost use Rattle.std.specs.Prelude.{◌≡◌, ℕ, ◌<◌, ◌≤◌, All, IfOk, length};
+ghost use Rattle.std.specs.Prelude.{◌≡◌, ℕ, ◌<◌, ◌≤◌, [], All, IfOk, IfSome, IfNone, length};
 ghost use Rattle.sig_graph.specs.Flows.{IsFlow, flow_at};
 ghost use Rattle.sig_graph.specs.Paths.{IsPath, arc_total};
-ghost use Rattle.sig_graph.specs.Walks.{flow_after, split_of, uses_of, walk_of};
+ghost use Rattle.sig_graph.specs.Walks.{IsNext, IsWalk, flow_after, split_of, uses_of};
 
 use crate::arc_index;
 use crate::flows::flow_on;
@@ -43,21 +43,32 @@ fn take_walks(alloc: Global, m: u8, left: &mut [u32], count: u32) -> Result<Path
     Ok(paths)
 }
 
-/// The next walk from the start.
+/// The next walk from the start: on to the next place, until no arc out of the place has flow left.
 fn next_walk(alloc: Global, m: u8, left: &[u32]) -> Result<Path, Memory>
     requires { length left.now ≡ arc_total m }
-    ensures walk { IfOk result (λ path. path ≡ walk_of m left.now) }
-    ensures path { IfOk result (IsPath m) }
+    ensures { IfOk result (IsWalk m left.now 0) }
 {
     let mut path = List::new(alloc);
     let mut from = 0;
-    for before in 0..m {
-        if flow_on(m, left, from, before + 1) > 0 {
-            from = before + 1;
-            path.push(from)?;
-        }
+    while let Some(to) = next_place(m, left, from) {
+        path.push(to)?;
+        from = to;
     }
     Ok(path)
+}
+
+/// The least place to which an arc from here with flow left leads, where there is one.
+fn next_place(m: u8, left: &[u32], from: u8) -> Option<u8>
+    requires { length left.now ≡ arc_total m }
+    ensures next { IfSome result (IsNext m left.now from) }
+    ensures end { IfNone result (IsWalk m left.now from []) }
+{
+    for before in from..m {
+        if flow_on(m, left, from, before + 1) > 0 {
+            return Some(before + 1);
+        }
+    }
+    None
 }
 
 /// Takes 1 from each arc of a path.
