@@ -2,7 +2,7 @@
 use Rattle.std.proofs.Common.{◌≡◌, ℕ, zero, suc, ◌+◌, ◌-◌, ◌<◌, ◌≤◌, List, [], ◌∷◌, get_or, length, take, All, sym, refl, ap, ◌∙◌, arith}
 use Rattle.std.specs.Prelude.{Contains}
 use Rattle.std.proofs.lemmas.Bool.{lt-ltb, eq-eqb, ne_eqb}
-use Rattle.std.proofs.lemmas.List.{get_or-map, get_or-take, length-map, length-take}
+use Rattle.std.proofs.lemmas.List.{get_or-map, get_or-take, length-map, length-take, take_all}
 use Rattle.ballot_form.specs.Ballots.{AreDistinct, IsValidBallot}
 use Rattle.signature_class.specs.Signatures.{kept_from, place_from, place_in, signature_of}
 use Rattle.sig_graph.specs.Paths.{ballot_of, IsPath, IsPathFrom}
@@ -93,3 +93,7 @@ next_is_new suffix path i distinct is within found =
 -- a candidate at a place of the path
 pub candidate_within : (m : ℕ) (path : List ℕ) (i : ℕ) → IsPath m path → i < length path → (1 ≤ get_or path i 0) × (get_or path i 0 ≤ m)
 candidate_within m path i is within = path_within m 0 path i is within
+
+-- at the end of the path the ballot is whole
+pub ballot_is_whole : (suffix path ballot : List ℕ) (i : ℕ) → ballot ≡ ballot_of suffix (take i path) → length path ≤ i → ballot ≡ ballot_of suffix path
+ballot_is_whole suffix path ballot i is past = is ∙ ap (ballot_of suffix) (take_all i path past)
