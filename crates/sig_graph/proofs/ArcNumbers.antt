@@ -1,7 +1,7 @@
 -- The numbers of arcs: where each stands in the order, and that no two share one.
 use Rattle.std.proofs.Common.{◌≡◌, ◌≢◌, ℕ, zero, suc, ◌+◌, ◌-◌, ◌*◌, ◌/◌, ◌<◌, ◌≤◌, List, [], ◌∷◌, ◌++◌, Option, Some, map, length, get_or, slice_get, refl, ap, ◌∙◌, inl, inr, arith}
 use Rattle.std.specs.List.{flat_map, range_with_len}
-use Rattle.std.proofs.lemmas.Bool.{cases_lt}
+use Rattle.std.proofs.lemmas.Bool.{cases_lt, cases_eq}
 use Rattle.std.proofs.lemmas.List.{get_or-map, length-append, length-map}
 use Rattle.std.proofs.lemmas.List.FromFn.{length-range_with_len}
 use Rattle.std.proofs.lemmas.Option.{get_or_from_slice_get, slice_get_within}
@@ -51,6 +51,16 @@ arc_at-apart m u x a b begins ends begins' ends' apart = elim (cases_lt u a) [
         let e : u ≡ a = omega arith in
         λ same. apart e (let f = ap (arcs_before m) e in omega (arith, f))
   ]
+]
+
+-- two arcs of one number are the same
+pub arc_at-same : (m u x a b : ℕ) → u < x → x ≤ m → a < b → b ≤ m → arc_at m u x ≡ arc_at m a b → (u ≡ a) × (x ≡ b)
+arc_at-same m u x a b begins ends begins' ends' is = elim (cases_eq u a) [
+  | inl e ↦ elim (cases_eq x b) [
+    | inl d ↦ (e, d)
+    | inr ne ↦ absurd (arc_at-apart m u x a b begins ends begins' ends' (λ _ d. ne d) is)
+  ]
+  | inr ne ↦ absurd (arc_at-apart m u x a b begins ends begins' ends' (λ e _. ne e) is)
 ]
 
 -- each number is that of an arc

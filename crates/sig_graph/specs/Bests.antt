@@ -3,7 +3,7 @@ use Rattle.std.specs.Prelude.{◌≡◌, ◌⊎◌, ℕ, ◌-◌, ◌*◌, List,
 use Rattle.sig_graph.specs.Paths.{IsBest}
 use Rattle.sig_graph.specs.declared.weights.TheConstants.{WEIGHT_LIMIT}
 
--- what the cell of the place u is to hold: its best, which each arc that may follow raises by little
+-- what the cell of the place u holds: its best, at most the limit for each arc that a path from there can have
 pub record IsDone (m : ℕ) (weights : List ℤ) (u : ℕ) (best : ℤ) : Type 0 where
   pub greatest : IsBest m weights u best
   pub at_least : pos 0 ≤ℤ best

@@ -25,7 +25,7 @@ arc_at m u x = arcs_before m u + (x - u - 1)
 
 -- ---- paths
 
--- the places of a path from u: each comes after the one before it
+-- the places of a path from u: each comes after the one before it, and is one of the m
 abbrev pub IsPathFrom : ℕ → ℕ → List ℕ → Type 0
 IsPathFrom m u [] = Unit {0}
 IsPathFrom m u (x ∷ path) = (u < x) × (x ≤ m) × IsPathFrom m x path

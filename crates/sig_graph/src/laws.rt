@@ -2,9 +2,16 @@
 ghost use Rattle.std.specs.Prelude.{◌≡◌, ℕ, ◌<◌, ◌≤◌, All, List, length, count_by, ℤ, pos, ◌-ℤ◌, ◌*ℤ◌, ◌≤ℤ◌};
 ghost use Rattle.mov_base.specs.Sums.{sum_z};
 ghost use Rattle.sig_graph.specs.Flows.{IsFlow, flow_at, flow_sum};
-ghost use Rattle.sig_graph.specs.Paths.{IsBest, IsPath, path_arcs, path_sum};
+ghost use Rattle.sig_graph.specs.Paths.{IsBest, IsPath, arc_at, arc_total, path_arcs, path_sum};
 ghost use Rattle.sig_graph.specs.Rows.{is_first_from, leads_over, one_where, row_weights};
 ghost use Rattle.sig_graph.specs.Walks.{AreWalks, flow_of, path_uses, split_of, uses_of};
+
+/// Each number below that of all arcs is the number of one arc.
+pub fn arcs_are_numbered()
+    ensures each { (m k : ℕ) → k < arc_total m → (u : ℕ) × (x : ℕ) × (u < x) × (x ≤ m) × (arc_at m u x ≡ k) }
+    ensures apart { (m u x a b : ℕ) → u < x → x ≤ m → a < b → b ≤ m →
+        arc_at m u x ≡ arc_at m a b → (u ≡ a) × (x ≡ b) }
+{}
 
 /// One number is the best of a place.
 pub fn best_is_one()

@@ -19,8 +19,8 @@ pub use arcs::{arc_count, arc_index};
 pub use ballots::path_ballot;
 pub use flows::is_flow;
 pub use laws::{
-    arcs_have_at_most_the_total, best_is_one, flow_brings_what_its_paths_bring, paths_make_a_flow,
-    paths_use_arcs_once, rows_by_arcs, splits_are_walks,
+    arcs_are_numbered, arcs_have_at_most_the_total, best_is_one, flow_brings_what_its_paths_bring,
+    paths_make_a_flow, paths_use_arcs_once, rows_by_arcs, splits_are_walks,
 };
 pub use walks::{Path, PathList, split_flow};
 pub use weights::{WEIGHT_LIMIT, best_path};
