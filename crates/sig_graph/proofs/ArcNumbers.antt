@@ -95,7 +95,8 @@ row_of m u = map (λ x. (u, x)) (range_with_len (u + 1) (m - u))
 length-row_of : (m u : ℕ) → length (row_of m u) ≡ m - u
 length-row_of m u = length-map (range_with_len (u + 1) (m - u)) (λ x. (u, x)) ∙ length-range_with_len (u + 1) (m - u)
 
-length-rows : (m u n : ℕ) → u + n ≡ m → arcs_before m u + length (flat_map (row_of m) (range_with_len u n)) ≡ arcs_before m m
+length-rows : (m u n : ℕ) → u + n ≡ m → arcs_before m u + length (flat_map (row_of m) (range_with_len u n)) ≡
+    arcs_before m m
 length-rows m u zero e = let f : u ≡ m = omega arith in omega (arith, ap (arcs_before m) f)
 length-rows m u (suc n) e =
     let h = length-rows m (suc u) n (omega arith) in
@@ -116,7 +117,8 @@ same_arc u x v y p q = cc
 get-row : (u a n k : ℕ) → k < n → slice_get (map (λ x. (u, x)) (range_with_len a n)) k ≡ some_arc u (a + k)
 get-row u a zero k within = absurd (omega arith)
 get-row u a (suc n) zero within = same_arc u a u (a + 0) refl (omega arith)
-get-row u a (suc n) (suc k) within = get-row u (a + 1) n k (omega arith) ∙ same_arc u (a + 1 + k) u (a + suc k) refl (omega arith)
+get-row u a (suc n) (suc k) within = get-row u (a + 1) n k (omega arith)
+    ∙ same_arc u (a + 1 + k) u (a + suc k) refl (omega arith)
 
 get-append_left : (xs ys : List (ℕ × ℕ)) (k : ℕ) → k < length xs → slice_get (xs ++ ys) k ≡ slice_get xs k
 get-append_left [] ys k within = absurd (omega arith)
@@ -157,7 +159,8 @@ pub get-arcs_of : (m u x : ℕ) → u < x → x ≤ m → slice_get (arcs_of m) 
 get-arcs_of m u x begins ends = get-rows m 0 m u x (arc_at m u x) (omega arith) (omega arith) begins ends (omega arith)
 
 -- a value of each arc stands at the arc's number
-pub get_or-each : {Y : Type 0} (g : ℕ × ℕ → Y) (m u x : ℕ) (d : Y) → u < x → x ≤ m → get_or (map g (arcs_of m)) (arc_at m u x) d ≡ g (u, x)
+pub get_or-each : {Y : Type 0} (g : ℕ × ℕ → Y) (m u x : ℕ) (d : Y) → u < x → x ≤ m →
+    get_or (map g (arcs_of m)) (arc_at m u x) d ≡ g (u, x)
 get_or-each g m u x d begins ends =
     let at = get-arcs_of m u x begins ends in
     get_or-map g (arcs_of m) (arc_at m u x) (u, x) d (slice_get_within (arcs_of m) (arc_at m u x) (u, x) at)

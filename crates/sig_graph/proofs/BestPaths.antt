@@ -24,7 +24,8 @@ via_none m ws u = record { above = none; reached = ([], tt, tt, refl) } where
   none [] is low = omega (arith, ints)
   none (x ∷ path) is low = absurd (omega (arith, is.0))
 
-module _ (m : ℕ) (ws : List ℤ) (u x : ℕ) (v b : ℤ) (after : u < x) (within : x ≤ m) (old : IsBestVia m ws u x v) (next : IsBest m ws x b) where
+module _ (m : ℕ) (ws : List ℤ) (u x : ℕ) (v b : ℤ) (after : u < x) (within : x ≤ m) (old : IsBestVia m ws u x v)
+    (next : IsBest m ws x b) where
   -- a bound on the old paths and on those through x bounds all up to x
   bounded : (t : ℤ) → v ≤ℤ t → (weight_at m ws u x +ℤ b) ≤ℤ t →
       (path : List ℕ) → IsPathFrom m u path → StartsBelow (x + 1) path → path_sum m ws u path ≤ℤ t
@@ -49,7 +50,12 @@ module _ (m : ℕ) (ws : List ℤ) (u x : ℕ) (v b : ℤ) (after : u < x) (with
   via_takes : v <ℤ (weight_at m ws u x +ℤ b) → IsBestVia m ws u (x + 1) (weight_at m ws u x +ℤ b)
   via_takes lt = record {
     above = bounded (weight_at m ws u x +ℤ b) (omega (arith, ints)) (omega (arith, ints));
-    reached = (x ∷ next.reached.0, (after, within, next.reached.1), omega arith, ap (λ z. weight_at m ws u x +ℤ z) next.reached.2);
+    reached = (
+      x ∷ next.reached.0,
+      (after, within, next.reached.1),
+      omega arith,
+      ap (λ z. weight_at m ws u x +ℤ z) next.reached.2,
+    );
   }
 
 -- the paths through x too
@@ -61,7 +67,10 @@ via_more m ws u x v b r after within old next choice = elim choice [
 ]
 
 pub via_all : (m : ℕ) (ws : List ℤ) (u : ℕ) (v : ℤ) → IsBestVia m ws u (m + 1) v → IsBest m ws u v
-via_all m ws u v h = record { above = λ path is. h.above path is (starts path is); reached = (h.reached.0, h.reached.1, h.reached.3) } where
+via_all m ws u v h = record {
+  above = λ path is. h.above path is (starts path is);
+  reached = (h.reached.0, h.reached.1, h.reached.3);
+} where
   starts : (path : List ℕ) → IsPathFrom m u path → StartsBelow (m + 1) path
   starts [] is = tt
   starts (x ∷ path) is = omega (arith, is.1)
@@ -88,7 +97,11 @@ better_low v w b r hv choice = elim choice [
 -- ---- the cells
 
 pub done_last : (m : ℕ) (ws : List ℤ) → IsDone m ws m (pos 0)
-done_last m ws = record { greatest = record { above = none; reached = ([], tt, refl) }; at_least = omega (arith, ints); at_most = omega (arith, ints) } where
+done_last m ws = record {
+  greatest = record { above = none; reached = ([], tt, refl) };
+  at_least = omega (arith, ints);
+  at_most = omega (arith, ints);
+} where
   none : (path : List ℕ) → IsPathFrom m m path → path_sum m ws m path ≤ℤ pos 0
   none [] is = omega (arith, ints)
   none (x ∷ path) is = absurd (omega (arith, is.0, is.1))

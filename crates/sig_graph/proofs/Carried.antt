@@ -23,9 +23,11 @@ one_less-here m f u x lt le long =
 pub one_less-other : (m : ℕ) (f : List ℕ) (u x a b : ℕ) → u < x → x ≤ m → a < b → b ≤ m → (u ≡ a → x ≡ b → ⊥) →
     flow_at m (one_less m f u x) a b ≡ flow_at m f a b
 one_less-other m f u x a b lt le lt' le' apart =
-    get_or-set_other f (arc_at m u x) (arc_at m a b) (flow_at m f u x - 1) 0 (λ e. arc_at-apart m u x a b lt le lt' le' apart (sym e))
+    get_or-set_other f (arc_at m u x) (arc_at m a b) (flow_at m f u x - 1) 0
+    (λ e. arc_at-apart m u x a b lt le lt' le' apart (sym e))
 
-module _ (m : ℕ) (f : List ℕ) (u x : ℕ) (lt : u < x) (le : x ≤ m) (long : length f ≡ arc_total m) (some : 1 ≤ flow_at m f u x) where
+module _ (m : ℕ) (f : List ℕ) (u x : ℕ) (lt : u < x) (le : x ≤ m) (long : length f ≡ arc_total m)
+    (some : 1 ≤ flow_at m f u x) where
   out_same : (v : ℕ) → v ≤ m → v ≢ u → flow_out m (one_less m f u x) v ≡ flow_out m f v
   out_same v within ne =
       range-same (λ b. flow_at m (one_less m f u x) v b) (λ b. flow_at m f v b) (v + 1) (m - v)
@@ -39,7 +41,8 @@ module _ (m : ℕ) (f : List ℕ) (u x : ℕ) (lt : u < x) (le : x ≤ m) (long 
   pub out_less : flow_out m (one_less m f u x) u + 1 ≡ flow_out m f u
   out_less =
       range-less (λ b. flow_at m (one_less m f u x) u b) (λ b. flow_at m f u b) x (u + 1) (m - u)
-      (λ b from to ne. one_less-other m f u x u b lt le (omega arith) (omega arith) (λ e d. absurd (omega (arith, d, ne))))
+      (λ b from to ne. one_less-other m f u x u b lt le (omega arith) (omega arith)
+      (λ e d. absurd (omega (arith, d, ne))))
       (omega (arith, one_less-here m f u x lt le long)) (omega arith) (omega arith)
 
   in_less : flow_in m (one_less m f u x) x + 1 ≡ flow_in m f x
@@ -63,16 +66,32 @@ carried_on : (m : ℕ) (f : List ℕ) (u x : ℕ) → u < x → x ≤ m → leng
     IsCarried m f u → IsCarried m (one_less m f u x) x
 carried_on m f u x lt le long some is = record { others = others; here = here } where
   at_u : 1 ≤ u → flow_out m (one_less m f u x) u ≤ flow_in m (one_less m f u x) u
-  at_u past = omega (arith, out_less m f u x lt le long some, in_same m f u x lt le long some u (omega arith) (omega arith), is.here past)
+  at_u past = omega (
+    arith,
+    out_less m f u x lt le long some,
+    in_same m f u x lt le long some u (omega arith) (omega arith),
+    is.here past,
+  )
 
   others : (v : ℕ) → 1 ≤ v → v ≤ m → v ≢ x → flow_out m (one_less m f u x) v ≤ flow_in m (one_less m f u x) v
   others v past within ne = elim (cases_eq v u) [
-    | inl e ↦ (let P : ℕ → Type 0 = λ w. flow_out m (one_less m f u x) w ≤ flow_in m (one_less m f u x) w in rw e (at_u (omega arith)))
-    | inr nu ↦ omega (arith, out_same m f u x lt le long some v within nu, in_same m f u x lt le long some v within ne, is.others v past within nu)
+    | inl e ↦ (let P : ℕ → Type 0 = λ w. flow_out m (one_less m f u x) w ≤ flow_in m (one_less m f u x) w in
+        rw e (at_u (omega arith)))
+    | inr nu ↦ omega (
+      arith,
+      out_same m f u x lt le long some v within nu,
+      in_same m f u x lt le long some v within ne,
+      is.others v past within nu,
+    )
   ]
 
   here : 1 ≤ x → flow_out m (one_less m f u x) x ≤ flow_in m (one_less m f u x) x + 1
-  here past = omega (arith, out_same m f u x lt le long some x le (omega arith), in_less m f u x lt le long some, is.others x past le (omega arith))
+  here past = omega (
+    arith,
+    out_same m f u x lt le long some x le (omega arith),
+    in_less m f u x lt le long some,
+    is.others x past le (omega arith),
+  )
 
 -- ---- walks
 
@@ -92,12 +111,18 @@ pub walk_after : (m : ℕ) (f : List ℕ) (u x n : ℕ) → u < x → x + 1 + n 
     walk_from m f x (range_with_len (x + 1) n) ≡ walk_from m (one_less m f u x) x (range_with_len (x + 1) n)
 walk_after m f u x n lt end =
     walk_from-same m f (one_less m f u x) x (x + 1) n (omega arith) end
-    (λ a b from below within. sym (one_less-other m f u x a b lt (omega arith) below within (λ e d. absurd (omega (arith, e)))))
+    (λ a b from below within. sym (one_less-other m f u x a b lt (omega arith) below within
+    (λ e d. absurd (omega (arith, e)))))
 
-pub walk_is_path : (m : ℕ) (f : List ℕ) (u x n : ℕ) → u < x → x + n ≡ m + 1 → IsPathFrom m u (walk_from m f u (range_with_len x n))
+pub walk_is_path : (m : ℕ) (f : List ℕ) (u x n : ℕ) → u < x → x + n ≡ m + 1 →
+    IsPathFrom m u (walk_from m f u (range_with_len x n))
 walk_is_path m f u x zero lt end = tt
 walk_is_path m f u x (suc n) lt end = elim (cases_lt 0 (flow_at m f u x)) [
-  | inl some ↦ rw (lt-ltb 0 (flow_at m f u x) some) (lt, omega arith, walk_is_path m f x (x + 1) n (omega arith) (omega arith))
+  | inl some ↦ rw (lt-ltb 0 (flow_at m f u x) some) (
+    lt,
+    omega arith,
+    walk_is_path m f x (x + 1) n (omega arith) (omega arith),
+  )
   | inr none ↦ rw (le-ltb 0 (flow_at m f u x) none) (walk_is_path m f u (x + 1) n (omega arith) (omega arith))
 ]
 
@@ -115,14 +140,16 @@ pub none_yet : (m : ℕ) (f : List ℕ) (u : ℕ) → NoneTo m f u (u + 1)
 none_yet m f u y from to = absurd (omega arith)
 
 out_none : (m : ℕ) (f : List ℕ) (u : ℕ) → u ≤ m → NoneTo m f u (m + 1) → flow_out m f u ≡ 0
-out_none m f u within none = range-none (λ b. flow_at m f u b) (u + 1) (m - u) (λ b from to. none b (omega arith) (omega arith))
+out_none m f u within none = range-none (λ b. flow_at m f u b) (u + 1) (m - u)
+    (λ b from to. none b (omega arith) (omega arith))
 
 pub length-flow_after : (m : ℕ) (f : List ℕ) (u : ℕ) (path : List ℕ) → length (flow_after m f u path) ≡ length f
 length-flow_after m f u [] = refl
 length-flow_after m f u (x ∷ path) = length-flow_after m (one_less m f u x) x path ∙ length-one_less m f u x
 
 -- what a walk leaves keeps being a flow
-pub walk_keeps : (m : ℕ) (f : List ℕ) (u x n : ℕ) → u < x → x + n ≡ m + 1 → length f ≡ arc_total m → NoneTo m f u x → IsCarried m f u →
+pub walk_keeps : (m : ℕ) (f : List ℕ) (u x n : ℕ) → u < x → x + n ≡ m + 1 → length f ≡ arc_total m → NoneTo m f u x →
+    IsCarried m f u →
     Keeps m (flow_after m f u (walk_from m f u (range_with_len x n)))
 walk_keeps m f u x zero lt end long none is = λ v past within. elim (cases_eq v u) [
   | inl e ↦
@@ -152,13 +179,15 @@ row_after m f u (x ∷ path) a b before lt le is =
 pub walk_starts : (m : ℕ) (f : List ℕ) (x n : ℕ) → 0 < x → x + n ≡ m + 1 → length f ≡ arc_total m → NoneTo m f 0 x →
     (flow_out m (flow_after m f 0 (walk_from m f 0 (range_with_len x n))) 0 ≡ 0)
     ⊎ (flow_out m (flow_after m f 0 (walk_from m f 0 (range_with_len x n))) 0 + 1 ≡ flow_out m f 0)
-walk_starts m f x zero past end long none = let e : x ≡ m + 1 = omega arith in inl (out_none m f 0 (omega arith) (rw e at none))
+walk_starts m f x zero past end long none = let e : x ≡ m + 1 = omega arith in
+    inl (out_none m f 0 (omega arith) (rw e at none))
 walk_starts m f x (suc n) past end long none = elim (cases_lt 0 (flow_at m f 0 x)) [
   | inl some ↦
       let after = flow_after m (one_less m f 0 x) x (walk_from m f x (range_with_len (x + 1) n)) in
       let path = walk_is_path m f x (x + 1) n (omega arith) (omega arith) in
       let same = range-same (λ b. flow_at m after 0 b) (λ b. flow_at m (one_less m f 0 x) 0 b) (0 + 1) (m - 0)
-      (λ b from to. row_after m (one_less m f 0 x) x (walk_from m f x (range_with_len (x + 1) n)) 0 b past (omega arith) (omega arith) path) in
+      (λ b from to. row_after m (one_less m f 0 x) x (walk_from m f x (range_with_len (x + 1) n)) 0 b past
+      (omega arith) (omega arith) path) in
       let less = out_less m f 0 x past (omega arith) long some in
       rw (lt-ltb 0 (flow_at m f 0 x) some) (inr (omega (arith, same, less)))
   | inr zero_here ↦ rw (le-ltb 0 (flow_at m f 0 x) zero_here)
@@ -167,4 +196,7 @@ walk_starts m f x (suc n) past end long none = elim (cases_lt 0 (flow_at m f 0 x
 
 -- at the start there is none
 pub carried_start : (m : ℕ) (f : List ℕ) → Keeps m f → IsCarried m f 0
-carried_start m f keeps = record { others = λ v past within ne. keeps v past within; here = λ past. absurd (omega arith) }
+carried_start m f keeps = record {
+  others = λ v past within ne. keeps v past within;
+  here = λ past. absurd (omega arith);
+}

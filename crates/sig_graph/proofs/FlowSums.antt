@@ -20,7 +20,8 @@ times_less zero w some = absurd (omega arith)
 times_less (suc n) w some = let e : suc n - 1 ≡ n = omega arith in rw e (omega (arith, ints))
 
 -- one unit less on an arc brings the arc's weight less
-pub flow_sum-less : (f : List ℕ) (ws : List ℤ) (k : ℕ) → 0 < get_or f k 0 → flow_sum f ws ≡ flow_sum (set f k (get_or f k 0 - 1)) ws +ℤ get_or ws k (pos 0)
+pub flow_sum-less : (f : List ℕ) (ws : List ℤ) (k : ℕ) → 0 < get_or f k 0 →
+    flow_sum f ws ≡ flow_sum (set f k (get_or f k 0 - 1)) ws +ℤ get_or ws k (pos 0)
 flow_sum-less [] ws k some = absurd (omega arith)
 flow_sum-less (n ∷ f) [] zero some = refl
 flow_sum-less (n ∷ f) [] (suc k) some = refl
@@ -37,11 +38,13 @@ flow_sum-none (n ∷ f) (w ∷ ws) none =
 
 -- what the flow brings is what a walk's path brings, and what is left then
 walk_sum : (m : ℕ) (f : List ℕ) (ws : List ℤ) (u x n : ℕ) → u < x → x + n ≡ m + 1 → length f ≡ arc_total m →
-    flow_sum f ws ≡ flow_sum (flow_after m f u (walk_from m f u (range_with_len x n))) ws +ℤ path_sum m ws u (walk_from m f u (range_with_len x n))
+    flow_sum f ws ≡ flow_sum (flow_after m f u (walk_from m f u (range_with_len x n))) ws
+    +ℤ path_sum m ws u (walk_from m f u (range_with_len x n))
 walk_sum m f ws u x zero lt end long = omega (arith, ints)
 walk_sum m f ws u x (suc n) lt end long = elim (cases_lt 0 (flow_at m f u x)) [
   | inl some ↦
-      let on = walk_sum m (one_less m f u x) ws x (x + 1) n (omega arith) (omega arith) (length-one_less m f u x ∙ long) in
+      let on = walk_sum m (one_less m f u x) ws x (x + 1) n (omega arith) (omega arith)
+      (length-one_less m f u x ∙ long) in
       let one = flow_sum-less f ws (arc_at m u x) some in
       rw (lt-ltb 0 (flow_at m f u x) some, walk_after m f u x n lt (omega arith)) (omega (arith, ints, on, one))
   | inr none ↦ rw (le-ltb 0 (flow_at m f u x) none) (walk_sum m f ws u (x + 1) n (omega arith) (omega arith) long)
@@ -54,7 +57,8 @@ nothing m f k is lt =
     ap (λ i. get_or f i 0) (sym a.is) ∙ flow_none m f is (suc a.from) a.from a.to (omega arith) a.begins a.ends
 
 -- the paths into which it is split bring what the flow brings
-pub flow_sum-split : (m : ℕ) (f : List ℕ) (n : ℕ) (ws : List ℤ) → IsFlow m f n → flow_sum f ws ≡ sum_z (λ path. path_sum m ws 0 path) (split_of m f n)
+pub flow_sum-split : (m : ℕ) (f : List ℕ) (n : ℕ) (ws : List ℤ) → IsFlow m f n →
+    flow_sum f ws ≡ sum_z (λ path. path_sum m ws 0 path) (split_of m f n)
 unfolding split_of
 flow_sum-split m f zero ws is = flow_sum-none f ws (λ k lt. nothing m f k is lt)
 flow_sum-split m f (suc n) ws is =
@@ -75,7 +79,8 @@ paths_bring m ws best (path ∷ paths) top are =
     omega (arith, ints, first, later, times_more (length paths) best)
 
 -- a flow brings at most its total times the best path
-pub flow_sum-le : (m : ℕ) (f : List ℕ) (n : ℕ) (ws : List ℤ) (best : ℤ) → IsFlow m f n → IsBest m ws 0 best → flow_sum f ws ≤ℤ (pos n *ℤ best)
+pub flow_sum-le : (m : ℕ) (f : List ℕ) (n : ℕ) (ws : List ℤ) (best : ℤ) → IsFlow m f n → IsBest m ws 0 best →
+    flow_sum f ws ≤ℤ (pos n *ℤ best)
 flow_sum-le m f n ws best is top =
     let most = paths_bring m ws best (split_of m f n) top (split_is_paths m f n) in
     rw (flow_sum-split m f n ws is) (rw (length-split_of m f n) at most)

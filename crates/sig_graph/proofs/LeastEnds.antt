@@ -7,12 +7,16 @@ use Rattle.sig_graph.specs.Paths.{IsPathFrom}
 use Rattle.sig_graph.specs.Walks.{flow_after, split_of, walk_from, walk_of, AreWalks, IsNext, IsWalk}
 use Rattle.sig_graph.proofs.Carried.{none_more, none_yet, NoneTo}
 
-walk_is : (m : ℕ) (f : List ℕ) (u x n : ℕ) → u < x → x + n ≡ m + 1 → NoneTo m f u x → IsWalk m f u (walk_from m f u (range_with_len x n))
+walk_is : (m : ℕ) (f : List ℕ) (u x n : ℕ) → u < x → x + n ≡ m + 1 → NoneTo m f u x →
+    IsWalk m f u (walk_from m f u (range_with_len x n))
 walk_is m f u x zero lt end none = λ y from to. none y from (omega arith)
 walk_is m f u x (suc n) lt end none = elim (cases_lt 0 (flow_at m f u x)) [
-  | inl some ↦ rw (lt-ltb 0 (flow_at m f u x) some)
-      (record { later = lt; within = omega arith; left = some; least = none }, walk_is m f x (x + 1) n (omega arith) (omega arith) (none_yet m f x))
-  | inr zero_here ↦ rw (le-ltb 0 (flow_at m f u x) zero_here) (walk_is m f u (x + 1) n (omega arith) (omega arith) (none_more m f u x none zero_here))
+  | inl some ↦ rw (lt-ltb 0 (flow_at m f u x) some) (
+    record { later = lt; within = omega arith; left = some; least = none },
+    walk_is m f x (x + 1) n (omega arith) (omega arith) (none_yet m f x),
+  )
+  | inr zero_here ↦ rw (le-ltb 0 (flow_at m f u x) zero_here)
+      (walk_is m f u (x + 1) n (omega arith) (omega arith) (none_more m f u x none zero_here))
 ]
 
 -- the place that a walk goes on to is not before x, and it is x where the arc to x has flow left
@@ -28,7 +32,8 @@ next_here m f u x y lt none some is = elim (cases_lt x y) [
   | inr le ↦ omega (arith, next_place m f u x y none is, le)
 ]
 
-walk_only : (m : ℕ) (f : List ℕ) (u x n : ℕ) (path : List ℕ) → u < x → x + n ≡ m + 1 → NoneTo m f u x → IsWalk m f u path →
+walk_only : (m : ℕ) (f : List ℕ) (u x n : ℕ) (path : List ℕ) → u < x → x + n ≡ m + 1 → NoneTo m f u x →
+    IsWalk m f u path →
     path ≡ walk_from m f u (range_with_len x n)
 walk_only m f u x zero [] lt end none is = refl
 walk_only m f u x zero (y ∷ path) lt end none is = absurd (omega (arith, next_place m f u x y none is.0, is.0.within))
@@ -49,9 +54,13 @@ walk_only m f u x (suc n) (y ∷ path) lt end none is = elim (cases_lt 0 (flow_a
 pub split_is_walks : (m : ℕ) (f : List ℕ) (n : ℕ) → AreWalks m f (split_of m f n)
 unfolding split_of
 split_is_walks m f zero = tt
-split_is_walks m f (suc n) = (walk_is m f 0 1 m (omega arith) (omega arith) (none_yet m f 0), split_is_walks m (flow_after m f 0 (walk_of m f)) n)
+split_is_walks m f (suc n) = (
+  walk_is m f 0 1 m (omega arith) (omega arith) (none_yet m f 0),
+  split_is_walks m (flow_after m f 0 (walk_of m f)) n,
+)
 
-pub walks_are_split : (m : ℕ) (f : List ℕ) (paths : List (List ℕ)) → AreWalks m f paths → paths ≡ split_of m f (length paths)
+pub walks_are_split : (m : ℕ) (f : List ℕ) (paths : List (List ℕ)) → AreWalks m f paths →
+    paths ≡ split_of m f (length paths)
 unfolding split_of
 walks_are_split m f [] are = refl
 walks_are_split m f (path ∷ paths) are =

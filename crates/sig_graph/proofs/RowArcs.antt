@@ -36,7 +36,8 @@ over-late m i j u (x ∷ path) late is =
     omega (arith, over-cons i j u x path, one_over-late i j u x late, over-late m i j x path (omega (arith, is.0)) is.2)
 
 -- one arc leads over i to j exactly where j is the first place that is at least i
-pub over_is_first : (m i j u : ℕ) (path : List ℕ) → u < i → i ≤ j → IsPathFrom m u path → over i j u path ≡ one_where (is_first_from i path j)
+pub over_is_first : (m i j u : ℕ) (path : List ℕ) → u < i → i ≤ j → IsPathFrom m u path →
+    over i j u path ≡ one_where (is_first_from i path j)
 over_is_first m i j u [] lt le is = refl
 over_is_first m i j u (x ∷ path) lt le is = elim (cases_lt x i) [
   | inl low ↦
@@ -50,16 +51,32 @@ over_is_first m i j u (x ∷ path) lt le is = elim (cases_lt x i) [
 
 -- ---- the row of i and j
 
-weight_at-row : (m i j u x : ℕ) → u < x → x ≤ m → weight_at m (row_weights m i j) u x ≡ pos (one_over i j u x) -ℤ pos (one_over i i u x)
+weight_at-row : (m i j u x : ℕ) → u < x → x ≤ m →
+    weight_at m (row_weights m i j) u x ≡ pos (one_over i j u x) -ℤ pos (one_over i i u x)
 weight_at-row m i j u x lt le = get_or-each (row_weight_of i j) m u x (pos 0) lt le
 
-path_sum-row : (m i j u : ℕ) (path : List ℕ) → IsPathFrom m u path → path_sum m (row_weights m i j) u path ≡ pos (over i j u path) -ℤ pos (over i i u path)
+path_sum-row : (m i j u : ℕ) (path : List ℕ) → IsPathFrom m u path →
+    path_sum m (row_weights m i j) u path ≡ pos (over i j u path) -ℤ pos (over i i u path)
 path_sum-row m i j u [] is = omega (arith, ints)
 path_sum-row m i j u (x ∷ path) is =
-    omega (arith, ints, weight_at-row m i j u x is.0 is.1, path_sum-row m i j x path is.2, over-cons i j u x path, over-cons i i u x path)
+    omega (
+      arith,
+      ints,
+      weight_at-row m i j u x is.0 is.1,
+      path_sum-row m i j x path is.2,
+      over-cons i j u x path,
+      over-cons i i u x path,
+    )
 
 -- a row's weight: 1 where j holds the ballot in round i, less 1 where i does
 pub row_by_arcs : (m i j : ℕ) (path : List ℕ) → 1 ≤ i → i ≤ j → IsPathFrom m 0 path →
-    path_sum m (row_weights m i j) 0 path ≡ pos (one_where (is_first_from i path j)) -ℤ pos (one_where (is_first_from i path i))
+    path_sum m (row_weights m i j) 0 path ≡
+    pos (one_where (is_first_from i path j)) -ℤ pos (one_where (is_first_from i path i))
 row_by_arcs m i j path some le is =
-    omega (arith, ints, path_sum-row m i j 0 path is, over_is_first m i j 0 path some le is, over_is_first m i i 0 path some (omega arith) is)
+    omega (
+      arith,
+      ints,
+      path_sum-row m i j 0 path is,
+      over_is_first m i j 0 path some le is,
+      over_is_first m i i 0 path some (omega arith) is,
+    )

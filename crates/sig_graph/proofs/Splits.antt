@@ -31,7 +31,8 @@ flow_none m f is (suc k) a b early lt le = elim (cases_lt a k) [
   | inr at ↦ elim (cases_lt 0 a) [
     | inl past ↦
         let out = term-le (λ y. flow_at m f a y) b (a + 1) (m - a) (omega arith) (omega arith) in
-        let none = range-none (λ u. flow_at m f u a) 0 a (λ u from to. flow_none m f is k u a (omega arith) (omega arith) (omega arith)) in
+        let none = range-none (λ u. flow_at m f u a) 0 a (λ u from to. flow_none m f is k u a
+        (omega arith) (omega arith) (omega arith)) in
         omega (arith, out, none, is.places a past (omega arith))
     | inr low ↦
         let e : a ≡ 0 = omega arith in
@@ -44,19 +45,24 @@ flow_none m f is (suc k) a b early lt le = elim (cases_lt a k) [
 
 -- what a walk uses, and what it leaves
 walk_uses : (m : ℕ) (f : List ℕ) (u x n a b : ℕ) → u < x → x + n ≡ m + 1 → length f ≡ arc_total m → a < b → b ≤ m →
-    uses_from a b u (walk_from m f u (range_with_len x n)) + flow_at m (flow_after m f u (walk_from m f u (range_with_len x n))) a b ≡ flow_at m f a b
+    uses_from a b u (walk_from m f u (range_with_len x n))
+    + flow_at m (flow_after m f u (walk_from m f u (range_with_len x n))) a b ≡ flow_at m f a b
 walk_uses m f u x zero a b lt end long lt' le' = omega arith
 walk_uses m f u x (suc n) a b lt end long lt' le' = elim (cases_lt 0 (flow_at m f u x)) [
   | inl some ↦
       let path = walk_from m (one_less m f u x) x (range_with_len (x + 1) n) in
-      let on = walk_uses m (one_less m f u x) x (x + 1) n a b (omega arith) (omega arith) (length-one_less m f u x ∙ long) lt' le' in
+      let on = walk_uses m (one_less m f u x) x (x + 1) n a b (omega arith) (omega arith)
+      (length-one_less m f u x ∙ long) lt' le' in
       let one = taken m f u x a b lt (omega arith) lt' le' long some in
-      rw (lt-ltb 0 (flow_at m f u x) some, walk_after m f u x n lt (omega arith)) (omega (arith, uses_from-cons a b u x path, on, one))
-  | inr none ↦ rw (le-ltb 0 (flow_at m f u x) none) (walk_uses m f u (x + 1) n a b (omega arith) (omega arith) long lt' le')
+      rw (lt-ltb 0 (flow_at m f u x) some, walk_after m f u x n lt (omega arith))
+      (omega (arith, uses_from-cons a b u x path, on, one))
+  | inr none ↦ rw (le-ltb 0 (flow_at m f u x) none) (walk_uses m f u (x + 1) n a b
+      (omega arith) (omega arith) long lt' le')
 ]
 
 -- the walks of a flow use each arc as often as the flow says
-pub split_uses : (m : ℕ) (f : List ℕ) (n : ℕ) → IsFlow m f n → (a b : ℕ) → a < b → b ≤ m → uses_of (split_of m f n) a b ≡ flow_at m f a b
+pub split_uses : (m : ℕ) (f : List ℕ) (n : ℕ) → IsFlow m f n → (a b : ℕ) → a < b → b ≤ m →
+    uses_of (split_of m f n) a b ≡ flow_at m f a b
 unfolding split_of
 split_uses m f zero is a b lt le = sym (flow_none m f is (suc a) a b (omega arith) lt le)
 split_uses m f (suc n) is a b lt le =

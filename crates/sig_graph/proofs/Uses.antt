@@ -35,7 +35,8 @@ pub uses_from-cons : (a b u x : ℕ) (path : List ℕ) → uses_from a b u (x �
 uses_from-cons a b u x path = sum_by-cons (λ e. cond (is_arc a b e) 1 0) (u, x) (path_arcs x path)
 
 -- the unit that is taken from an arc
-pub taken : (m : ℕ) (f : List ℕ) (u x a b : ℕ) → u < x → x ≤ m → a < b → b ≤ m → length f ≡ arc_total m → 1 ≤ flow_at m f u x →
+pub taken : (m : ℕ) (f : List ℕ) (u x a b : ℕ) → u < x → x ≤ m → a < b → b ≤ m → length f ≡ arc_total m →
+    1 ≤ flow_at m f u x →
     one_use a b u x + flow_at m (one_less m f u x) a b ≡ flow_at m f a b
 taken m f u x a b lt le lt' le' long some = elim (cases_eq u a) [
   | inl e ↦ elim (cases_eq x b) [
@@ -62,6 +63,16 @@ uses_past m a b u (x ∷ path) past is =
 pub uses_once : (m a b u : ℕ) (path : List ℕ) → IsPathFrom m u path → uses_from a b u path ≤ 1
 uses_once m a b u [] is = omega arith
 uses_once m a b u (x ∷ path) is = elim (cases_eq u a) [
-  | inl e ↦ omega (arith, uses_from-cons a b u x path, uses_past m a b x path (omega (arith, is.0)) is.2, one_use-le a b u x)
-  | inr ne ↦ omega (arith, uses_from-cons a b u x path, uses_once m a b x path is.2, one_use-other a b u x (λ e _. ne e))
+  | inl e ↦ omega (
+    arith,
+    uses_from-cons a b u x path,
+    uses_past m a b x path (omega (arith, is.0)) is.2,
+    one_use-le a b u x,
+  )
+  | inr ne ↦ omega (
+    arith,
+    uses_from-cons a b u x path,
+    uses_once m a b x path is.2,
+    one_use-other a b u x (λ e _. ne e),
+  )
 ]

@@ -5,11 +5,17 @@ use Rattle.sig_graph.proofs.arcs.arc_index.Goals as goal
 
 pub returns-clause-number : goal.returns-clause-number
 returns-clause-number c =
-    rw (c.from-u.ensures, c.from.ensures, c.from-2.ensures) (arc_at-product c.args.m c.args.u c.args.x c.requires.begins c.requires.ends)
+    rw (c.from-u.ensures, c.from.ensures, c.from-2.ensures)
+    (arc_at-product c.args.m c.args.u c.args.x c.requires.begins c.requires.ends)
 
 pub returns-clause-arc : goal.returns-clause-arc
 returns-clause-arc c =
-    ap (slice_get (arcs_of c.args.m)) (returns-clause-number c) ∙ get-arcs_of c.args.m c.args.u c.args.x c.requires.begins c.requires.ends
+    ap (slice_get (arcs_of c.args.m)) (returns-clause-number c)
+    ∙ get-arcs_of c.args.m c.args.u c.args.x c.requires.begins c.requires.ends
 
 pub returns-clause-within : goal.returns-clause-within
-returns-clause-within c = omega (arith, returns-clause-number c, arc_at-within c.args.m c.args.u c.args.x c.requires.begins c.requires.ends)
+returns-clause-within c = omega (
+  arith,
+  returns-clause-number c,
+  arc_at-within c.args.m c.args.u c.args.x c.requires.begins c.requires.ends,
+)

@@ -7,4 +7,5 @@ use Rattle.sig_graph.proofs.flows.sum_in.Given as goal
 abbrev pub invariant-loop-from : goal.invariant-loop-from
 invariant-loop-from l =
     (l.sum ≤ l.from * 2 ^ 32)
-    × (l.sum + add_up (λ u. flow_at l.m l.flow u l.to) (range_with_len l.from (l.to - l.from)) ≡ flow_in l.m l.flow l.to)
+    × (l.sum + add_up (λ u. flow_at l.m l.flow u l.to) (range_with_len l.from (l.to - l.from)) ≡
+    flow_in l.m l.flow l.to)
