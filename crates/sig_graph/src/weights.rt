@@ -21,9 +21,7 @@ pub fn best_path(m: u8, weights: &[i128], best: &mut [i128]) -> i128
     let last = usize::from(m);
     best[last] = 0;
     let mut first = weights.len();
-    let mut u = last;
-    while u > 0 {
-        u -= 1;
+    for u in (0..last).rev() {
         first -= last - u;
         best[u] = best_from(last, u, first, weights, best);
     }

@@ -4,9 +4,6 @@ use Rattle.sig_graph.specs.Paths.{arcs_before}
 use Rattle.sig_graph.specs.Bests.{IsDone}
 use Rattle.sig_graph.proofs.weights.best_path.Given as goal
 
-abbrev pub decreases-loop-u : goal.decreases-loop-u
-decreases-loop-u l = l.u
-
 abbrev pub invariant-loop-u : goal.invariant-loop-u
 invariant-loop-u l =
     (l.u ≤ l.last)
