@@ -1,5 +1,5 @@
 // The greatest sum of weights over a path.
-ghost use Rattle.std.specs.Prelude.{◌≡◌, ℕ, ◌+◌, ◌*◌, ◌-◌, ◌≤◌, ◌<◌, ◌⊎◌, All, length, slice_index_or, pos, ◌+ℤ◌, ◌≤ℤ◌, ◌<ℤ◌};
+ghost use Rattle.std.specs.Prelude.{◌≡◌, ℕ, ◌+◌, ◌*◌, ◌≤◌, ◌<◌, All, length, slice_index_or, pos, ◌+ℤ◌, ◌≤ℤ◌};
 ghost use Rattle.sig_graph.specs.Paths.{arc_total, arcs_before, IsBest, IsSmallWeight};
 ghost use Rattle.sig_graph.specs.Bests.{IsBetter, IsDone};
 
