@@ -1,6 +1,8 @@
-// Kinds of a small roll, and classes by keys.
+// Kinds of a small roll, classes by keys, and signatures.
 use crate::rolls::roll_of;
-use signature_class::{Classes, kinds};
+use signature_class::{
+    Classes, cover_classes, cover_key, kinds, signature, signature_key, suffix_classes, suffix_key,
+};
 use std::test::Fail;
 
 #[test]
@@ -22,5 +24,28 @@ fn keys_stand_as_they_came(rt: HostRuntime) -> Result<(), Fail> {
     assert_eq!(rt; classes.len(), 2);
     assert_eq!(rt; (classes.key(0), classes.count(0)), (7, 5));
     assert_eq!(rt; (classes.key(1), classes.count(1)), (0, 1));
+    Ok(())
+}
+
+/// The one candidate before the last in the suffix goes out without holding the ballot.
+#[test]
+fn one_signature(rt: HostRuntime) -> Result<(), Fail> {
+    let places = signature(rt.alloc(), &[1, 2], &[1, 0, 2]);
+    assert_eq!(rt; places.as_slice(), [1, 3].as_slice());
+    assert_eq!(rt; signature_key(places.as_slice()), 5);
+    assert_eq!(rt; (suffix_key(&[1, 2], &[1, 0, 2]), cover_key(&[1, 2, 0], 2)), (5, 6));
+    Ok(())
+}
+
+#[test]
+fn kinds_are_classed(rt: HostRuntime) -> Result<(), Fail> {
+    let roll = roll_of(rt.alloc(), "3: 2 B C, 1, 3 A, 4 B C A")?;
+    let kinds = kinds(rt.alloc(), &roll)?;
+    let by_suffix = suffix_classes(rt.alloc(), &kinds, &[1, 0, 2])?;
+    assert_eq!(rt; (by_suffix.len(), by_suffix.key(0), by_suffix.count(0)), (3, 5, 6));
+    assert_eq!(rt; (by_suffix.key(2), by_suffix.count(2)), (2, 3));
+    let by_cover = cover_classes(rt.alloc(), &kinds, 0)?;
+    assert_eq!(rt; (by_cover.len(), by_cover.key(0), by_cover.count(0)), (4, 6, 2));
+    assert_eq!(rt; (by_cover.key(3), by_cover.count(3)), (7, 4));
     Ok(())
 }

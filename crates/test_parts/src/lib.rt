@@ -25,6 +25,8 @@ mod outcomes;
 #[cfg(test)]
 mod pairs;
 #[cfg(test)]
+mod paths;
+#[cfg(test)]
 mod pivot_form_tests;
 #[cfg(test)]
 mod programs;

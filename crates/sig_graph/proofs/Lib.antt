@@ -1,0 +1,12 @@
+pub mod ArcNumbers
+pub mod BestPaths
+pub mod Carried
+pub mod FlowSums
+pub mod LeastEnds
+pub mod PathBallots
+pub mod PathFlows
+pub mod Ranges
+pub mod RowArcs
+pub mod Splits
+pub mod Uses
+pub mod Walking
