@@ -1,6 +1,6 @@
 -- The candidates, thinned out variable by variable.
-use Rattle.std.proofs.Common.{ℕ, zero, suc, ◌≡◌, ◌≢◌, ◌<◌, ◌≤◌, ◌+◌, ◌-◌, arith, refl, ap, sym, ◌∙◌, subst, List, [], ◌∷◌, ◌++◌, length, get_or, set, take, drop, append_assoc, drop-cons, add-one, Some, None, ◌⊎◌, inl, inr, Bool, true, false}
-use Rattle.std.specs.Prelude.{ℤ, pos, negsuc, ◌*ℤ◌, ◌-ℤ◌, ◌<ℤ◌, ◌≤ℤ◌, int_lt, Option, filter, slice_get, if◌then◌else◌}
+use Rattle.std.proofs.Common.{ℕ, zero, suc, ◌≡◌, ◌≢◌, ◌<◌, ◌≤◌, ◌+◌, ◌-◌, arith, refl, ap, sym, ◌∙◌, subst, List, [], ◌∷◌, ◌++◌, length, get_or, set, take, drop, append_assoc, drop-cons, add-one, Some, None, ◌⊎◌, ⊎_elim, inl, inr, Bool, true, false}
+use Rattle.std.specs.Prelude.{ℤ, pos, negsuc, ◌*ℤ◌, ◌-ℤ◌, ◌<ℤ◌, ◌≤ℤ◌, int_lt, IfSome, Option, filter, slice_get, if◌then◌else◌}
 use Rattle.std.specs.List.{All, range_with_len}
 use Rattle.std.proofs.lemmas.Int.{ints}
 use Rattle.std.proofs.lemmas.List.{take_more_set, drop-set-lt}
@@ -8,9 +8,11 @@ use Rattle.std.proofs.lemmas.List.Elements.{All-nil, All-cons, All-tail, All-hea
 use lib.IntN.{neg_ℤ}
 use Rattle.exact_num.proofs.Ring.{leaf, minus, times, same}
 use Rattle.pivot_form.proofs.Sums.{zero_factor, positive_factor, positive_product}
-use Rattle.row_program.specs.Forms.{Table, entry}
-use Rattle.row_program.specs.Method.{candidates, entering, column, difference, first_least, first_least_of, lex_negative, value_count}
-use Rattle.lex_dual.specs.Choices.{IsCandidate, comes_before_from, entering_among}
+use Rattle.row_program.specs.Forms.{Table, basic_of, entry}
+use Rattle.row_program.specs.Method.{candidates, column, column_in, difference, entering, first_least, first_least_of, lex_negative, row_of_basic, value_count}
+use Rattle.lex_dual.specs.Choices.{IsCandidate, IsOutside, comes_before_from, entering_among}
+use Rattle.std.proofs.lemmas.Bool.{cases_eq}
+use Rattle.pivot_form.specs.Invariant.{IsForm}
 use Rattle.lex_dual.proofs.Choices.{lex_past, lex_here, is_below, not_below}
 
 -- ---- the first of the least
@@ -170,6 +172,47 @@ module _ (t : Table) (row v : ℕ) where
 
     pub above_at : pos 0 <ℤ (x *ℤ den -ℤ num *ℤ y) → IsKept t row v old num den (take kept left) (drop (i + 1) left)
     above_at high = kept_above t row v old num den (drop (i + 1) left) c x y within ex ey (take kept left) next high
+
+-- ---- a variable whose coefficient in each candidate is 0
+lesser_has : (P : ℕ → Type 0) (b : Bool) (best j : ℕ) → P best → P j → P (if b then j else best)
+lesser_has P true best j h k = k
+lesser_has P false best j h k = h
+
+same_least : (f g : ℕ → ℕ → Bool) (P : ℕ → Type 0) (best : ℕ) (js : List ℕ) → P best → All P js → ((c b : ℕ) → P c → P b → f c b ≡ g c b) → first_least f best js ≡ first_least g best js
+same_least f g P best [] h all same = refl
+same_least f g P best (j ∷ js) h all same =
+    let here = All-head P j js all in
+    ap (λ (b : Bool). first_least f (if b then j else best) js) (same j best here h)
+    ∙ same_least f g P (lesser_of g best j) js (lesser_has P (g j best) best j h here) (All-tail P j js all) same
+
+no_difference : (x y a b : ℤ) → x ≡ pos 0 → y ≡ pos 0 → x *ℤ a -ℤ y *ℤ b ≡ pos 0
+no_difference x y a b hx hy = rw (hx, hy) (omega (arith, ints))
+
+pub untold : (t : Table) (row v : ℕ) (js : List ℕ) → v < value_count t → All (λ j. column t j v ≡ pos 0) js → entering_among t row (v + 1) js ≡ entering_among t row v js
+untold t row v [] within none = refl
+untold t row v (j ∷ js) within none =
+    let P : ℕ → Type 0 = λ j. column t j v ≡ pos 0 in
+    ap (λ (u : ℕ). Some u) (sym (same_least (comes_before_from t row v) (comes_before_from t row (v + 1)) P j js (All-head P j js none) (All-tail P j js none)
+    (λ c b hc hb. before_past t row v c b within (no_difference (column t c v) (column t b v) (neg_ℤ (entry t row b)) (neg_ℤ (entry t row c)) hc hb))))
+
+-- candidates are nonbasic
+pub candidate_outside : (t : Table) (row j : ℕ) → IsForm t → row < length t.rows → IsCandidate t row j → IsOutside t j
+candidate_outside t row j form inside h = (h.0, λ i l e. ⊎_elim
+    (λ (same_row : i ≡ row). let above = form.solved.positive i l in absurd (omega (arith, ints, h.1, above, ap (entry t row) e, ap (λ (k : ℕ). entry t k (basic_of t i)) same_row)))
+    (λ apart. let none = form.solved.clear i row l inside (λ f. apart (sym f)) in absurd (omega (arith, ints, h.1, none, ap (entry t row) e)))
+    (cases_eq i row))
+
+pub candidates_outside : (t : Table) (row : ℕ) (js : List ℕ) → IsForm t → row < length t.rows → All (IsCandidate t row) js → All (IsOutside t) js
+candidates_outside t row js form inside all = λ k d l. candidate_outside t row (get_or js k d) form inside (all k d l)
+
+-- a basic variable has the coefficients of its row, with the sign turned
+pub only_in : (t : Table) (v row : ℕ) (o : Option ℕ) → row_of_basic t v ≡ Some row → row < length t.rows
+    → IfSome o (λ other. (j : ℕ) → j < t.variables → j ≢ basic_of t row → j ≢ other → entry t row j ≡ pos 0)
+    → IfSome o (λ only. (j : ℕ) → IsOutside t j → j ≢ only → column t j v ≡ pos 0)
+only_in t v row None is inside told = told
+only_in t v row (Some other) is inside told = λ j out off.
+    let none : entry t row j ≡ pos 0 = told j out.0 (λ e. out.1 row inside (sym e)) off in
+    ap (column_in t j v) is ∙ omega (arith, ints, none)
 
 -- the rest are candidates
 pub rest_has : (t : Table) (row : ℕ) (left : List ℕ) (i : ℕ) → i < length left → All (IsCandidate t row) (drop i left) → IsCandidate t row (get_or left i 0)

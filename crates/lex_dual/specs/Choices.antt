@@ -3,7 +3,7 @@
 use Rattle.std.specs.Prelude.{ℕ, pos, ◌<◌, ◌≤◌, ◌-◌, ◌<ℤ◌, ◌≤ℤ◌, List, map, Bool, Option, Some, None}
 use lib.IntN.{neg_ℤ}
 use Rattle.std.specs.List.{range_with_len}
-use Rattle.row_program.specs.Forms.{Table, entry, right_side, basic_of}
+use Rattle.row_program.specs.Forms.{IsNonbasic, Table, basic_of, entry, right_side, tableau}
 use Rattle.row_program.specs.Method.{row_of_basic, value_count, column, difference, lex_negative, first_least_of}
 
 -- the row of the cost and of each variable of the program, where it is basic
@@ -20,6 +20,10 @@ IsFirstNegative t n (Some b) =
 -- the variable has a positive coefficient in the row
 abbrev pub IsCandidate : Table → ℕ → ℕ → Type 0
 IsCandidate t row j = (j < t.variables) × (entry t row j <ℤ pos 0)
+
+-- a variable that is nonbasic
+abbrev pub IsOutside : Table → ℕ → Type 0
+IsOutside t j = (j < t.variables) × IsNonbasic (tableau t) j
 
 -- the column of j comes before that of k by the variables from v on, each divided by its own coefficient in the row
 abbrev pub comes_before_from : Table → ℕ → ℕ → ℕ → ℕ → Bool

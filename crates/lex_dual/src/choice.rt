@@ -1,11 +1,11 @@
 // What leaves and what enters.
-ghost use Rattle.std.specs.Prelude.{◌≡◌, ◌<◌, ◌≤◌, ◌+◌, ℤ, pos, ◌<ℤ◌, length, take, unsigned_abs, vec_capacity, IfSome, IfOk};
+ghost use Rattle.std.specs.Prelude.{◌≡◌, ◌≢◌, ◌<◌, ◌≤◌, ◌+◌, ℕ, ℤ, false, pos, ◌<ℤ◌, length, take, unsigned_abs, vec_capacity, IfSome, IfOk};
 ghost use Rattle.std.specs.List.{All};
 ghost use lib.IntN.{neg_ℤ};
 ghost use Rattle.row_program.specs.Forms.{entry};
 ghost use Rattle.row_program.specs.Method.{leaving, entering, candidates, column};
 ghost use Rattle.pivot_form.specs.Invariant.{IsForm};
-ghost use Rattle.lex_dual.specs.Choices.{places_of, IsFirstNegative, IsCandidate, entering_among};
+ghost use Rattle.lex_dual.specs.Choices.{places_of, IsFirstNegative, IsCandidate, IsOutside, entering_among};
 
 use exact_num::{WIDE, cross};
 use mov_base::Memory;
@@ -110,6 +110,9 @@ fn thin_out(
         ≡ entering_among form.now row v left.old }
     ensures all { All (IsCandidate form.now row) (take result left.new) }
 {
+    if !tells_apart(form, places, v, left) {
+        return left.len();
+    }
     let mut least = quotient_at(form, places, row, v, left[0]);
     let mut kept = 1;
     for i in 1..left.len() {
@@ -126,6 +129,33 @@ fn thin_out(
         }
     }
     kept
+}
+
+/// Whether the variable v may tell these candidates apart: not where its coefficient in each of them is 0.
+fn tells_apart(form: &Form, places: &[Option<usize>], v: usize, left: &[usize]) -> bool
+    requires form { IsForm form.now }
+    requires places { places.now ≡ places_of form.now }
+    requires v { v < length places.now }
+    requires nonbasic { All (IsOutside form.now) left.now }
+    ensures { result ≡ false → All (λ j. column form.now j v ≡ pos 0) left.now }
+{
+    match only_column(form, places, v) {
+        Some(only) => left.contains(&only),
+        None => true,
+    }
+}
+
+/// The one nonbasic variable in which the variable v may have another coefficient than 0, where that is told at once.
+fn only_column(form: &Form, places: &[Option<usize>], v: usize) -> Option<usize>
+    requires form { IsForm form.now }
+    requires places { places.now ≡ places_of form.now }
+    requires v { v < length places.now }
+    ensures { IfSome result (λ only. (j : ℕ) → IsOutside form.now j → j ≢ only → column form.now j v ≡ pos 0) }
+{
+    match places[v] {
+        Some(row) => form.lone(row),
+        None => Some(v),
+    }
 }
 
 /// A variable's coefficient in a candidate, and the candidate's own in the row, which divides it.

@@ -14,6 +14,9 @@ pub mod Cleared
 pub mod Flips
 pub mod Steps
 pub mod Sizes
+pub mod Factors
+pub mod Quotients
+pub mod SmallRows
 pub mod Shorts
 pub mod WholeRows
 pub mod ClassPairs

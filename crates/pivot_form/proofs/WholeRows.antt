@@ -1,5 +1,5 @@
 -- The whole equations of what is kept, as code writes them, and those that a pivot makes of them.
-use Rattle.std.proofs.Common.{ℕ, ◌≡◌, ◌≢◌, ◌<◌, ◌+◌, arith, ap, sym, ◌∙◌, ⊎_elim, List, length, get_or, drop, set, refl, false, rules, Option, None, Some}
+use Rattle.std.proofs.Common.{ℕ, ◌≡◌, ◌≢◌, ◌<◌, ◌+◌, arith, ap, sym, ◌∙◌, ⊎_elim, List, length, get_or, drop, set, refl, false, rules, Option, None, Some, IfSome}
 use Rattle.std.specs.Prelude.{ℤ, pos, ◌<ℤ◌, unsigned_abs}
 use Rattle.std.specs.List.{All}
 use Rattle.std.specs.Option.{is_some}
@@ -10,7 +10,7 @@ use Rattle.std.proofs.lemmas.List.FromFn.{fill_by_all}
 use Rattle.exact_num.specs.declared.limits.TheConstants.{WIDE}
 use mir.Syntax.{w64}
 use mir.Val.{to_z, of_z}
-use Rattle.row_program.specs.Forms.{Table, eliminated, entry, first_large, first_large_of, map_from, next_row, right_side, row_of, turned}
+use Rattle.row_program.specs.Forms.{Table, basic_of, eliminated, entry, first_large, first_large_of, map_from, next_row, right_side, row_of, turned}
 use Rattle.pivot_form.specs.Kept.{Store, entry_of, right_of, row_entry, table_of, variables_of, whole_row}
 use Rattle.pivot_form.specs.Shorts.{IsBasic, IsShort}
 use Rattle.pivot_form.proofs.Equations.{eliminated_kept, none_from_small}
@@ -93,3 +93,14 @@ right_read s t row b x is same inside basic read =
 
 pub row_inside : (s : Store) (t : Table) (row : ℕ) → table_of s ≡ t → row < length t.rows → row < length s.basis
 row_inside s t row same inside = omega (arith, inside, ap (λ (u : Table). length u.rows) same, height s)
+
+-- the one variable that an equation has besides its basic one, as it is told
+pub lone_read : (s : Store) (t : Table) (row b : ℕ) (o : Option ℕ) → table_of s ≡ t → row < length t.rows → b ≡ get_or s.basis row 0
+    → IfSome o (λ other. (v : ℕ) → v ≢ b → v ≢ other → entry_of s b v ≡ pos 0)
+    → IfSome o (λ other. (v : ℕ) → v < t.variables → v ≢ basic_of t row → v ≢ other → entry t row v ≡ pos 0)
+lone_read s t row b None same inside basic told = told
+lone_read s t row b (Some other) same inside basic told = λ v within off apart.
+    let rows : row < length s.basis = omega (arith, inside, ap (λ (u : Table). length u.rows) same, height s) in
+    let variables : v < variables_of s = omega (arith, within, ap (λ (u : Table). u.variables) same) in
+    sym (ap (λ (u : Table). entry u row v) same) ∙ entry_is s row v rows variables ∙ ap (λ (a : ℕ). entry_of s a v) (sym basic)
+    ∙ told v (λ e. off (e ∙ basic ∙ ap (λ (u : Table). basic_of u row) same)) apart

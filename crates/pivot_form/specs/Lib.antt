@@ -1,4 +1,5 @@
 pub mod Invariant
 pub mod Kept
 pub mod Shorts
+pub mod Sizes
 pub mod Starts

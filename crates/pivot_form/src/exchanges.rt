@@ -7,7 +7,8 @@ ghost use Rattle.pivot_form.specs.Kept.{exchanged, flipped, mirrored, pair_of, p
 ghost use Rattle.pivot_form.specs.Shorts.{IsBasic, IsShort, StandsAlone, store_of};
 ghost use Rattle.pivot_form.specs.declared.places.Place.TheVariants.{Column, Kept, Paired};
 
-use crate::clearing::clear_slots;
+use crate::clearing::{Lead, clear_slots};
+use crate::narrow::most;
 use crate::places::{Pair, Place};
 use crate::rows::{negate, turn};
 use crate::short::Short;
@@ -72,13 +73,17 @@ fn exchange(
     let p = lead[column];
     lead[column] = lead[width];
     lead[width] = 0;
+    let turned = Lead {
+        column,
+        own: p,
+        row: lead,
+        most: most(lead),
+    };
     clear_slots(
         short.rows.as_mut_slice(),
         slot,
         width,
-        column,
-        p,
-        lead,
+        &turned,
         scratch,
     );
     let basic = short.basics[row];

@@ -1,5 +1,5 @@
 // Forms, the first of them, and their pivots.
-ghost use Rattle.std.specs.Prelude.{◌≡◌, ◌≢◌, ◌<◌, ◌+◌, ℕ, ℤ, pos, ◌↔◌, length, MatchOption, MatchResult, IfOk, OnOk, IsTrue, Some, None, slice_index};
+ghost use Rattle.std.specs.Prelude.{◌≡◌, ◌≢◌, ◌<◌, ◌+◌, ℕ, ℤ, pos, ◌↔◌, length, MatchOption, MatchResult, IfOk, IfSome, OnOk, IsTrue, Some, None, slice_index};
 ghost use Rattle.row_program.specs.Forms.{entry, right_side, basic_of, tableau, first_form, next_form, first_large_of, Holds, IsNonbasic, IsSolved, IsReduced};
 ghost use Rattle.pivot_form.specs.Kept.{table_of, variables_of};
 ghost use Rattle.pivot_form.specs.Shorts.{AreSumsUpTo, IsShort, store_of};
@@ -108,6 +108,16 @@ impl Form {
         ensures { result ≡ entry self.now row column }
     {
         self.short.entry(self.short.basic(row), column)
+    }
+
+    /// The one variable besides the basic one that the equation of the row has, where that is told at once: it is so of an
+    /// equation that says that the two add up to a number.
+    pub fn lone(&self, row: usize) -> Option<usize>
+        requires { row < length self.now.rows }
+        ensures { IfSome result (λ other. (column : ℕ) → column < self.now.variables
+            → column ≢ basic_of self.now row → column ≢ other → entry self.now row column ≡ pos 0) }
+    {
+        self.short.lone(self.short.basic(row))
     }
 
     /// The right side of the row.

@@ -7,6 +7,7 @@
 #![tactic(auto)]
 
 mod clearing;
+mod divisor;
 mod exchanges;
 mod form;
 mod narrow;
@@ -14,6 +15,7 @@ mod pairs;
 mod places;
 mod rows;
 mod short;
+mod small_rows;
 mod start;
 mod whole_rows;
 

@@ -10,15 +10,15 @@ ghost use Rattle.pivot_form.specs.declared.places.Place.TheVariants.{Column, Kep
 use crate::short::Short;
 use exact_num::WIDE;
 
-/// The greatest size of the entries.
-fn most(row: &[i64]) -> u64
+/// A bound on the sizes of the entries, less than twice the greatest: the bits that any of them has.
+pub(crate) fn most(row: &[i64]) -> u64
     requires { All (λ x. unsigned_abs x < WIDE) row.now }
     ensures most { All (λ x. unsigned_abs x ≤ result) row.now }
     ensures small { result < WIDE }
 {
     let mut most = 0;
     for x in row {
-        most = most.max(x.unsigned_abs());
+        most |= x.unsigned_abs();
     }
     most
 }

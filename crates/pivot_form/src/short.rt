@@ -1,5 +1,5 @@
 // Forms kept by slots and pairs.
-ghost use Rattle.std.specs.Prelude.{◌≡◌, ◌<◌, ◌+◌, length, slice_index, unsigned_abs, Some};
+ghost use Rattle.std.specs.Prelude.{◌≡◌, ◌≢◌, ◌<◌, ◌+◌, ℕ, pos, length, slice_index, unsigned_abs, IfSome, Some};
 ghost use Rattle.pivot_form.specs.Kept.{cell, entry_of, kept_entry, pair_of, place_of, right_of, variables_of, IsStore};
 ghost use Rattle.pivot_form.specs.Shorts.{IsBasic, IsShort, store_of};
 ghost use Rattle.pivot_form.specs.declared.places.Place.TheVariants.{Kept, Paired};
@@ -74,10 +74,22 @@ impl Short {
         requires variable { variable < variables_of (store_of self.now) }
         ensures { result ≡ entry_of (store_of self.now) basic variable }
     {
-        match (self.places[basic], self.pairs[basic]) {
-            (Place::Kept(slot), _) => self.kept_entry(slot, variable),
-            (Place::Paired, Some(pair)) => self.paired_entry(basic, pair, variable),
-            _ => unreachable!(),
+        match self.places[basic] {
+            Place::Kept(slot) => self.kept_entry(slot, variable),
+            _ => self.paired_entry(basic, self.pair(basic), variable),
+        }
+    }
+
+    /// The pair of a basic variable whose equation isn't kept.
+    fn pair(&self, basic: usize) -> Pair
+        requires short { IsShort (store_of self.now) }
+        requires within { basic < variables_of (store_of self.now) }
+        requires paired { place_of (store_of self.now) basic ≡ Paired }
+        ensures { pair_of (store_of self.now) basic ≡ Some result }
+    {
+        match self.pairs[basic] {
+            Some(pair) => pair,
+            None => unreachable!(),
         }
     }
 
@@ -116,16 +128,32 @@ impl Short {
         }
     }
 
+    /// The other variable of a basic variable's equation, where it is that of its pair.
+    pub(crate) fn lone(&self, basic: usize) -> Option<usize>
+        requires short { IsShort (store_of self.now) }
+        requires basic { IsBasic (store_of self.now) basic }
+        ensures { IfSome result (λ other. (v : ℕ) → v ≢ basic → v ≢ other
+            → entry_of (store_of self.now) basic v ≡ pos 0) }
+    {
+        if let Place::Kept(_) = self.places[basic] {
+            return None;
+        }
+        let other = self.pair(basic).other;
+        match self.places[other] {
+            Place::Kept(_) => None,
+            _ => Some(other),
+        }
+    }
+
     /// The right side of the equation of a basic variable.
     pub(crate) fn right(&self, basic: usize) -> i64
         requires short { IsShort (store_of self.now) }
         requires basic { IsBasic (store_of self.now) basic }
         ensures { result ≡ right_of (store_of self.now) basic }
     {
-        match (self.places[basic], self.pairs[basic]) {
-            (Place::Kept(slot), _) => self.cell(slot, self.width + 1),
-            (Place::Paired, Some(pair)) => self.paired_right(basic, pair),
-            _ => unreachable!(),
+        match self.places[basic] {
+            Place::Kept(slot) => self.cell(slot, self.width + 1),
+            _ => self.paired_right(basic, self.pair(basic)),
         }
     }
 

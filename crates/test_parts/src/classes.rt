@@ -39,7 +39,7 @@ fn one_signature(rt: HostRuntime) -> Result<(), Fail> {
 
 #[test]
 fn kinds_are_classed(rt: HostRuntime) -> Result<(), Fail> {
-    let roll = roll_of(rt.alloc(), "3: 2 B C, 1, 3 A, 4 B C A")?;
+    let roll = roll_of(rt.alloc(), "3: 2 BC, 1, 3 A, 4 BCA")?;
     let kinds = kinds(rt.alloc(), &roll)?;
     let by_suffix = suffix_classes(rt.alloc(), &kinds, &[1, 0, 2])?;
     assert_eq!(rt; (by_suffix.len(), by_suffix.key(0), by_suffix.count(0)), (3, 5, 6));

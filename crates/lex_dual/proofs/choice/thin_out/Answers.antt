@@ -1,14 +1,15 @@
-use Rattle.std.proofs.Common.{arith, rules, refl, zero, suc, false, ◌≢◌, ap, sym, ◌∙◌, ◌≡◌, ◌<◌, length, get_or}
+use Rattle.std.proofs.Common.{arith, rules, refl, zero, suc, false, ◌≢◌, ap, sym, ◌∙◌, ◌≡◌, ◌<◌, ◌+◌, length, get_or}
 use Rattle.std.specs.Prelude.{ℤ, pos, negsuc, int_lt, ◌<ℤ◌, ◌*ℤ◌, ◌-ℤ◌}
 use Rattle.std.proofs.lemmas.Int.{ints, to_z-of_z}
 use Rattle.std.specs.Int.RustNames.{FitsSigned}
 use mir.Syntax.{w64, w128}
 use mir.Val.{of_z, to_z}
+use Rattle.std.proofs.lemmas.List.{take_all}
 use Rattle.std.proofs.lemmas.List.Elements.{All-drop}
 use Rattle.row_program.specs.Method.{value_count}
-use Rattle.lex_dual.specs.Choices.{IsCandidate}
+use Rattle.lex_dual.specs.Choices.{IsCandidate, entering_among}
 use Rattle.lex_dual.proofs.Tables.{length-places_of}
-use Rattle.lex_dual.proofs.Thinning.{first_at, below_at, same_at, above_at, rest_has, rest_set, rest_more}
+use Rattle.lex_dual.proofs.Thinning.{first_at, below_at, same_at, above_at, rest_has, rest_set, rest_more, untold}
 use Rattle.lex_dual.proofs.choice.thin_out.Goals as goal
 use Rattle.lex_dual.proofs.choice.thin_out.Goals.{then-difference-lt0, else-difference-lt0+then-difference-eq0, else-difference-lt0+else-difference-eq0}
 
@@ -84,3 +85,11 @@ loop-i-preserved c =
             small_den = c.loop-i.invariant.small_den;
           })
     ]
+
+pub returns-then-not-tells_apart-clause-value : goal.returns-then-not-tells_apart-clause-value
+returns-then-not-tells_apart-clause-value c =
+    let t = c.args.form.now in
+    let left = c.args.left.now in
+    let within : c.args.v < value_count t = omega (arith, c.requires.v, ap length c.requires.places, length-places_of t) in
+    ap (entering_among t c.args.row (c.args.v + 1)) (take_all (length left) left (omega arith))
+    ∙ untold t c.args.row c.args.v left within (c.tells_apart.ensures c.if-not-tells_apart.true)

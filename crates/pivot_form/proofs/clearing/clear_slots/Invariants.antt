@@ -6,6 +6,6 @@ use Rattle.pivot_form.proofs.clearing.clear_slots.Given as goal
 
 abbrev pub invariant-loop-k : goal.invariant-loop-k
 invariant-loop-k l = record {
-  rows : row_lists l.rows ≡ map_front_from (next_by l.width l.column l.p l.lead l.slot) l.k 0 (row_lists l.initial.rows);
+  rows : row_lists l.rows ≡ map_front_from (next_by l.width l.lead.column l.lead.own l.lead.row.now l.slot) l.k 0 (row_lists l.initial.rows);
   room : length l.scratch ≡ l.width + 2;
 }
