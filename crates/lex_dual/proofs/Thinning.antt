@@ -197,10 +197,13 @@ untold t row v (j ∷ js) within none =
 
 -- candidates are nonbasic
 pub candidate_outside : (t : Table) (row j : ℕ) → IsForm t → row < length t.rows → IsCandidate t row j → IsOutside t j
-candidate_outside t row j form inside h = (h.0, λ i l e. ⊎_elim
-    (λ (same_row : i ≡ row). let above = form.solved.positive i l in absurd (omega (arith, ints, h.1, above, ap (entry t row) e, ap (λ (k : ℕ). entry t k (basic_of t i)) same_row)))
-    (λ apart. let none = form.solved.clear i row l inside (λ f. apart (sym f)) in absurd (omega (arith, ints, h.1, none, ap (entry t row) e)))
-    (cases_eq i row))
+candidate_outside t row j form inside h = (
+  h.0,
+  λ i l e. ⊎_elim
+      (λ (same_row : i ≡ row). let above = form.solved.positive i l in absurd (omega (arith, ints, h.1, above, ap (entry t row) e, ap (λ (k : ℕ). entry t k (basic_of t i)) same_row)))
+      (λ apart. let none = form.solved.clear i row l inside (λ f. apart (sym f)) in absurd (omega (arith, ints, h.1, none, ap (entry t row) e)))
+      (cases_eq i row),
+)
 
 pub candidates_outside : (t : Table) (row : ℕ) (js : List ℕ) → IsForm t → row < length t.rows → All (IsCandidate t row) js → All (IsOutside t) js
 candidates_outside t row js form inside all = λ k d l. candidate_outside t row (get_or js k d) form inside (all k d l)

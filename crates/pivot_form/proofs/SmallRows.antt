@@ -57,8 +57,9 @@ stays_one g row i one =
 
 pub stays_reduced : (row : List ℤ) → row_gcd row ≤ 1 → row ≡ primitive row
 stays_reduced row le = elim (cases_eq (row_gcd row) 0) [
-    inl none ↦ primitive_zero row none
-  | inr some ↦ primitive_one row (omega (arith, le, some)) ]
+  | inl none ↦ primitive_zero row none
+  | inr some ↦ primitive_one row (omega (arith, le, some))
+]
 
 pub room_of : (p q : ℤ) (most : ℕ) (row lead : List ℤ) → length lead ≡ length row → All (λ x. unsigned_abs p * unsigned_abs x + unsigned_abs q * most < WIDE) row → All (λ x. unsigned_abs x ≤ most) lead → HasRoom p row q lead
 room_of p q most row lead same room below i l =

@@ -53,13 +53,7 @@ fn clear_short(row: &mut [i64], lead: &Lead<'_>, scratch: &mut [i128])
 }
 
 /// Writes what the slot keeps next: the entering variable's own slot the lead with its own entry, another its row, cleared.
-fn renew_short(
-    row: &mut [i64],
-    own: bool,
-    width: usize,
-    lead: &Lead<'_>,
-    scratch: &mut [i128],
-)
+fn renew_short(row: &mut [i64], own: bool, width: usize, lead: &Lead<'_>, scratch: &mut [i128])
     requires wide { length row.old ≡ width + 2 }
     requires same_lead { length lead.now.row.now ≡ width + 2 }
     requires same_scratch { length scratch.old ≡ width + 2 }

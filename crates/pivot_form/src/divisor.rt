@@ -90,10 +90,7 @@ pub(crate) fn common_divisor(a: i64, b: i64) -> i64
     requires small_b { unsigned_abs b < WIDE }
     ensures value { result ≡ pos (gcd_with (unsigned_abs a) b) }
 {
-    signed(gcd(
-        u128::from(b.unsigned_abs()),
-        u128::from(a.unsigned_abs()),
-    ))
+    signed(gcd(u128::from(b.unsigned_abs()), u128::from(a.unsigned_abs())))
 }
 
 /// The size as a number.

@@ -79,13 +79,7 @@ fn exchange(
         row: lead,
         most: most(lead),
     };
-    clear_slots(
-        short.rows.as_mut_slice(),
-        slot,
-        width,
-        &turned,
-        scratch,
-    );
+    clear_slots(short.rows.as_mut_slice(), slot, width, &turned, scratch);
     let basic = short.basics[row];
     let place = short.places[basic];
     short.places[basic] = Place::Column(column);
