@@ -45,16 +45,12 @@ fn kinds_are_classed(rt: HostRuntime) -> Result<(), Fail> {
     let roll = roll_of(rt.alloc(), "3: 2 BC, 1, 3 A, 4 BCA")?;
     let kinds = kinds(rt.alloc(), &roll)?;
     let by_suffix = suffix_classes(rt.alloc(), &kinds, &[1, 0, 2])?;
-    assert_eq!(rt;
-        (by_suffix.len(), by_suffix.key(0), by_suffix.count(0)),
-        (3, 5, 6)
-    );
+    assert_eq!(rt; by_suffix.len(), 3);
+    assert_eq!(rt; (by_suffix.key(0), by_suffix.count(0)), (5, 6));
     assert_eq!(rt; (by_suffix.key(2), by_suffix.count(2)), (2, 3));
     let by_cover = cover_classes(rt.alloc(), &kinds, 0)?;
-    assert_eq!(rt;
-        (by_cover.len(), by_cover.key(0), by_cover.count(0)),
-        (4, 6, 2)
-    );
+    assert_eq!(rt; by_cover.len(), 4);
+    assert_eq!(rt; (by_cover.key(0), by_cover.count(0)), (6, 2));
     assert_eq!(rt; (by_cover.key(3), by_cover.count(3)), (7, 4));
     Ok(())
 }
