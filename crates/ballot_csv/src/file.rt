@@ -25,7 +25,7 @@ pub fn read_ballots(alloc: Global, bytes: &[u8]) -> Result<Contest, BallotFault>
     let mut records = Records::of(alloc, bytes);
     let mut head = ByteRecord::new(alloc);
     match records.read(&mut head) {
-        Ok(true) => read_after(alloc, &head, records),
+        Ok(true) => read_after(alloc, &head, &mut records),
         Ok(false) => Err(BallotFault {
             kind: BallotKind::Empty,
             at: 1,
@@ -38,17 +38,17 @@ pub fn read_ballots(alloc: Global, bytes: &[u8]) -> Result<Contest, BallotFault>
 fn read_after(
     alloc: Global,
     head: &ByteRecord,
-    mut records: Records,
+    records: &mut Records,
 ) -> Result<Contest, BallotFault>
-    requires few { length records < 2 ^ 63 }
-    ensures { ReadsContest result (file.read_records (fields_of head.now ∷ records.entry)) }
+    requires few { length records.old < 2 ^ 63 }
+    ensures { ReadsContest result (file.read_records (fields_of head.now ∷ records.old)) }
 {
     let (names, index) = match read_head(alloc, head) {
         Ok(names) => names,
         Err(kind) => return Err(BallotFault { kind, at: 1 }),
     };
     let mut roll = Roll::new(alloc, names.len() as u8);
-    add_records(alloc, &index, &mut records, &mut roll)?;
+    add_records(alloc, &index, records, &mut roll)?;
     Ok(Contest { names, roll })
 }
 

@@ -9,6 +9,7 @@ mod Trees
 mod HeadForms
 mod OutcomeForms
 mod TurnForms
+mod Steps
 mod Whole
 mod Answering
 mod Writing

@@ -1,5 +1,5 @@
 -- A tree that is read is the tree that was written, and a tree that was written is read again.
-use Rattle.std.proofs.Common.{◌≡◌, ℕ, zero, suc, ◌+◌, ◌<◌, ◌≤◌, false, cond, eqb, leb, List, [], ◌∷◌, ◌++◌, length, Ok, Err, refl, sym, ap, ◌∙◌, subst, arith, append_assoc}
+use Rattle.std.proofs.Common.{◌≡◌, ℕ, zero, suc, ◌+◌, ◌<◌, ◌≤◌, false, cond, eqb, leb, List, [], ◌∷◌, ◌++◌, length, Result, Ok, Err, refl, sym, ap, ◌∙◌, subst, arith, append_assoc}
 use Rattle.std.specs.Prelude.{All}
 use Rattle.std.specs.List.{position}
 use Rattle.std.proofs.lemmas.Bool.{leb-false, lt-leb}
@@ -14,6 +14,7 @@ use Rattle.text_lines.specs.Words.{fields_of, line_of}
 use Rattle.text_lines.proofs.Joining.{line_lacks, fields_again}
 use Rattle.cert_text.specs.declared.fault.CertKind.TheVariants.{TreeEnds, TooDeep, TooManyNodes}
 use Rattle.cert_text.specs.Faults.{fault}
+use Rattle.cert_text.specs.declared.fault.CertFault.{CertFault}
 use Rattle.cert_text.specs.Reading.{◌>>=◌, TextLeft, line_at, at_line, many_at}
 use Rattle.cert_text.specs.TreeLines.{tree_line}
 use Rattle.cert_text.specs.TreeReading.{tree_line_at, grown_at, node_at}
@@ -37,18 +38,42 @@ pub record TookLine (first : ℕ) (p : TextLeft) (y : Line × TextLeft) : Type 0
   pub fits : LineFits y.0
   pub few : p.0 < first + MOST_NODES
 
+-- the line of these fields
+line_is : (l : List ℕ) (x : Line) → fields_of l ≡ tree_words x → l ≡ line_of (tree_words x)
+line_is l x e = sym (join_with_byte-slice_split 32 l) ∙ ap line_of e
+
+took_line : (first : ℕ) (p : TextLeft) (l : List ℕ) (q : TextLeft) (x : Line) → p.1 ≡ l ++ 10 ∷ q.1 → q.0 ≡ p.0 + 1 → fields_of l ≡ tree_words x → LineFits x → p.0 < first + MOST_NODES → TookLine first p (x, q)
+took_line first p l q x cut next words fit few = record {
+  text = cut ∙ ap (λ (t : List ℕ). t ++ 10 ∷ q.1) (line_is l x words) ∙ sym (append_assoc (line_of (tree_words x)) (10 ∷ []) q.1);
+  number = next;
+  fits = fit;
+  few = few;
+}
+
+abbrev counted : ℕ → ℕ → Line × TextLeft → Result (Line × TextLeft) CertFault
+counted first n found = cond (leb (first + MOST_NODES) n) (Err (fault TooManyNodes n)) (Ok found)
+
+abbrev judged : ℕ → ℕ → List ℕ × TextLeft → Result (Line × TextLeft) CertFault
+judged first n text = at_line n (tree_line (fields_of text.0)) >>= λ found. counted first n (found, text.1)
+
+found_takes : (first : ℕ) (p : TextLeft) (l : List ℕ) (q : TextLeft) (x : Line) (y : Line × TextLeft) → line_at p ≡ Ok (l, q) → at_line p.0 (tree_line (fields_of l)) ≡ Ok x → counted first p.0 (x, q) ≡ Ok y → TookLine first p y
+found_takes first p l q x y at read kept =
+    let h = guard_ok (leb (first + MOST_NODES) p.0) (fault TooManyNodes p.0) (Ok (x, q)) y kept in
+    let cut = cut_takes p (position (λ b. eqb b 10) p.1) (l, q) refl at in
+    let is = tree_line_takes (fields_of l) x (at_line_ok p.0 (tree_line (fields_of l)) x read) in
+    subst (λ (z : Line × TextLeft). TookLine first p z) (ok_is (x, q) y h.1) (took_line first p l q x cut.0 cut.1 is.spelled is.fits (leb-false _ _ h.0))
+
+judged_takes : (first : ℕ) (p : TextLeft) (l : List ℕ) (q : TextLeft) (y : Line × TextLeft) → line_at p ≡ Ok (l, q) → judged first p.0 (l, q) ≡ Ok y → TookLine first p y
+judged_takes first p l q y at e =
+    let b = bind_ok (at_line p.0 (tree_line (fields_of l))) (λ found. counted first p.0 (found, q)) y e in
+    found_takes first p l q b.0 y at b.1 b.2
+
 pub tree_line_at_takes : (first : ℕ) (p : TextLeft) (y : Line × TextLeft) → tree_line_at first p ≡ Ok y → TookLine first p y
 unfolding tree_line_at
 tree_line_at_takes first p y e =
-    let g = guard_ok (eqb (length p.1) 0) (fault TreeEnds p.0) (line_at p >>= λ text. at_line p.0 (tree_line (fields_of text.0)) >>= λ found. cond (leb (first + MOST_NODES) p.0) (Err (fault TooManyNodes p.0)) (Ok (found, text.1))) y e in
-    let a = bind_ok (line_at p) (λ text. at_line p.0 (tree_line (fields_of text.0)) >>= λ found. cond (leb (first + MOST_NODES) p.0) (Err (fault TooManyNodes p.0)) (Ok (found, text.1))) y g.1 in
-    let b = bind_ok (at_line p.0 (tree_line (fields_of a.0.0))) (λ found. cond (leb (first + MOST_NODES) p.0) (Err (fault TooManyNodes p.0)) (Ok (found, a.0.1))) y a.2 in
-    let h = guard_ok (leb (first + MOST_NODES) p.0) (fault TooManyNodes p.0) (Ok (b.0, a.0.1)) y b.2 in
-    let l = cut_takes p (position (λ b. eqb b 10) p.1) a.0 refl a.1 in
-    let is = tree_line_takes (fields_of a.0.0) b.0 (at_line_ok p.0 (tree_line (fields_of a.0.0)) b.0 b.1) in
-    let written : a.0.0 ≡ line_of (tree_words b.0) = sym (join_with_byte-slice_split 32 a.0.0) ∙ ap line_of is.spelled in
-    let whole : p.1 ≡ one_line b.0 ++ a.0.1.1 = l.0 ∙ ap (λ (t : List ℕ). t ++ 10 ∷ a.0.1.1) written ∙ sym (append_assoc (line_of (tree_words b.0)) (10 ∷ []) a.0.1.1) in
-    subst (λ (z : Line × TextLeft). TookLine first p z) (ok_is (b.0, a.0.1) y h.1) (record { text = whole; number = l.1; fits = is.fits; few = leb-false _ _ h.0 })
+    let g = guard_ok (eqb (length p.1) 0) (fault TreeEnds p.0) (line_at p >>= judged first p.0) y e in
+    let a = bind_ok (line_at p) (judged first p.0) y g.1 in
+    judged_takes first p a.0.0 a.0.1 y a.1 a.2
 
 not_empty : (a b : List ℕ) → eqb (length (a ++ 10 ∷ b)) 0 ≡ false
 not_empty a b = let n : length (a ++ 10 ∷ b) ≡ length a + suc (length b) = length-append a (10 ∷ b) in rw n (grind arith)

@@ -8,7 +8,6 @@ use Rattle.ballot_form.specs.Rules.{IsRule}
 use Rattle.ballot_form.specs.declared.rule.Rule.{Rule}
 use Rattle.ballot_form.specs.declared.outcome.Outcome.{Outcome}
 use Rattle.alteration_model.specs.declared.puts.Put.{Put}
-use Rattle.bound_tree.specs.Plain.{Plain}
 use Rattle.bound_tree.specs.Nodes.{size}
 use Rattle.text_lines.specs.Words.{fields_of, line_of}
 use Rattle.cert_text.specs.declared.fault.CertFault.{CertFault}
@@ -18,7 +17,7 @@ use Rattle.cert_text.specs.declared.cert.Claim.{Claim}
 use Rattle.cert_text.specs.declared.cert.Claim.TheVariants.{Margin, Fixed, Bounds}
 use Rattle.cert_text.specs.declared.cert.GoalText.{GoalText}
 use Rattle.cert_text.specs.Faults.{fault}
-use Rattle.cert_text.specs.Reading.{◌>>=◌, TextLeft, form_at, many_at}
+use Rattle.cert_text.specs.Reading.{◌>>=◌, TextLeft, form_at}
 use Rattle.cert_text.specs.HeadLines.{first_line, rule_line, size_line, reported_line, claim_line, goal_line, put_line}
 use Rattle.cert_text.specs.TreeReading.{node_at}
 use Rattle.cert_text.specs.CertReading.{turn_at, body_at, cert_at, first_fault}
@@ -30,27 +29,10 @@ use Rattle.cert_text.proofs.HeadForms.{first_form, rule_form, size_form, claim_f
 use Rattle.cert_text.proofs.OutcomeForms.{outcome_form}
 use Rattle.cert_text.proofs.TurnForms.{put_form, goal_form}
 use Rattle.cert_text.proofs.Trees.{node_takes, node_again}
+use Rattle.cert_text.proofs.Steps.{rule_at, size_at, reported_at, claim_at, goal_at, puts_at, Body, cert_of, after_tree, after_body, after_claim, after_reported, after_size, after_rule, after_first, by_lines}
 use Rattle.bound_tree.specs.declared.bound.TheConstants.{MOST_DEPTH}
 
 -- ---- each line as a line of a text
-
-abbrev rule_at : TextLeft → Result (Rule × TextLeft) CertFault
-rule_at p = form_at (λ l. rule_line (fields_of l)) p
-
-abbrev size_at : TextLeft → Result ((ℕ × ℕ) × TextLeft) CertFault
-size_at p = form_at (λ l. size_line (fields_of l)) p
-
-abbrev reported_at : Rule → ℕ → TextLeft → Result (Outcome × TextLeft) CertFault
-reported_at rule c p = form_at (λ l. reported_line rule c (fields_of l)) p
-
-abbrev claim_at : TextLeft → Result (Claim × TextLeft) CertFault
-claim_at p = form_at (λ l. claim_line (fields_of l)) p
-
-abbrev goal_at : ℕ → TextLeft → Result (GoalText × TextLeft) CertFault
-goal_at c p = form_at (λ l. goal_line c (fields_of l)) p
-
-abbrev puts_at : ℕ → TextLeft → Result (List Put × TextLeft) CertFault
-puts_at k p = many_at (form_at (λ l. put_line (fields_of l))) k p
 
 rule_lines : IsForm Rule (λ l. rule_line (fields_of l)) (λ x. line_of (rule_words x)) IsRule
 rule_lines = line_form Rule rule_line rule_words IsRule rule_form
@@ -71,9 +53,6 @@ put_lines : IsForm Put (λ l. put_line (fields_of l)) (λ x. line_of (put_words 
 put_lines = line_form Put put_line put_words PutFits put_form
 
 -- ---- what is read is the text of the certificate
-
-abbrev pub Body : Type 0
-Body = Option GoalText × List Put
 
 record TookTurn (c k : ℕ) (p : TextLeft) (y : Body × TextLeft) : Type 0 where
   spelled : p.1 ≡ goal_text y.0.0 ++ (puts_text y.0.1 ++ y.1.1)
@@ -105,35 +84,6 @@ body_takes c (Bounds low up stop) p y e = let turn = turn_takes c up p y e in re
 ended_ok : {A : Type 0} (b : Bool) (d : CertFault) (x y : A) → cond b (Ok x) (Err d) ≡ Ok y → (b ≡ true) × (x ≡ y)
 ended_ok true d x y e = (refl, ok_is x y e)
 ended_ok false d x y e = absurd cc
-
-abbrev pub cert_of : Rule → (ℕ × ℕ) → Outcome → Claim → Body → Plain → Cert
-cert_of rule sizes reported claim body tree = record { rule = rule; c = sizes.0; ballots = sizes.1; reported = reported; claim = claim; goal = body.0; puts = body.1; tree = tree }
-
--- what is read from each line on
-abbrev pub after_tree : Rule → ℕ × ℕ → Outcome → Claim → Body → Plain × TextLeft → Result Cert CertFault
-after_tree rule sizes reported claim body tree = cond (eqb (length tree.1.1) 0) (Ok (cert_of rule sizes reported claim body tree.0)) (Err (fault Tail tree.1.0))
-
-abbrev pub after_body : Rule → ℕ × ℕ → Outcome → Claim → Body × TextLeft → Result Cert CertFault
-after_body rule sizes reported claim body = node_at MOST_DEPTH body.1.0 body.1 >>= after_tree rule sizes reported claim body.0
-
-abbrev pub after_claim : Rule → ℕ × ℕ → Outcome → Claim × TextLeft → Result Cert CertFault
-after_claim rule sizes reported claim = body_at sizes.0 claim.0 claim.1 >>= after_body rule sizes reported claim.0
-
-abbrev pub after_reported : Rule → ℕ × ℕ → Outcome × TextLeft → Result Cert CertFault
-after_reported rule sizes reported = claim_at reported.1 >>= after_claim rule sizes reported.0
-
-abbrev pub after_size : Rule → (ℕ × ℕ) × TextLeft → Result Cert CertFault
-after_size rule sizes = reported_at rule sizes.0.0 sizes.1 >>= after_reported rule sizes.0
-
-abbrev pub after_rule : Rule × TextLeft → Result Cert CertFault
-after_rule rule = size_at rule.1 >>= after_size rule.0
-
-abbrev pub after_first : Unit {0} × TextLeft → Result Cert CertFault
-after_first top = rule_at top.1 >>= after_rule
-
-pub by_lines : (text : List ℕ) → cert_at text ≡ (form_at first_line (1, text) >>= after_first)
-unfolding cert_at
-by_lines text = refl
 
 -- the text from each line on
 abbrev from_body : Cert → List ℕ
@@ -251,7 +201,7 @@ pub read_exactly : (text : List ℕ) (x : Cert) → (cert_at text ≡ Ok x) ↔ 
 read_exactly text x = (cert_takes text x, is_read text x)
 
 some_cert : (text : List ℕ) (r : Result Cert CertFault) → cert_at text ≡ r → first_fault text ≡ None → (x : Cert) × CertText text x
-some_cert text (Ok x) e none = (x, cert_takes text x e)
+some_cert text (Ok y) e none = (y, cert_takes text y e)
 some_cert text (Err f) e none = absurd (let found : Some f ≡ None = sym (ap (λ r. elim r [ Ok cert ↦ None | Err found ↦ Some found ]) e) ∙ none in cc)
 
 no_fault : (text : List ℕ) (x : Cert) → CertText text x → first_fault text ≡ None

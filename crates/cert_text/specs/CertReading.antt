@@ -1,6 +1,8 @@
 -- A certificate, read line by line up to the first fault.
 use Rattle.std.specs.Prelude.{ℕ, ◌==◌, if◌then◌else◌, List, [], length, Option, Some, None, Result, Ok, Err}
+use Rattle.ballot_form.specs.declared.rule.Rule.{Rule}
 use Rattle.alteration_model.specs.declared.puts.Put.{Put}
+use Rattle.bound_tree.specs.Plain.{Plain}
 use Rattle.cert_text.specs.declared.fault.CertFault.{CertFault}
 use Rattle.cert_text.specs.declared.fault.CertKind.TheVariants.{Tail}
 use Rattle.cert_text.specs.declared.cert.Cert.{Cert}
@@ -25,6 +27,20 @@ unfoldable pub body_at : ℕ → Claim → TextLeft → Result ((Option GoalText
 body_at c Fixed p = Ok ((None, []), p)
 body_at c (Margin k) p = turn_at c k p
 body_at c (Bounds low up stop) p = turn_at c up p
+
+-- the lines at the top: the first, the rule, and the numbers of candidates and of ballots
+unfoldable pub top_at : TextLeft → Result ((Rule × (ℕ × ℕ)) × TextLeft) CertFault
+top_at p = do
+  top ← form_at first_line p
+  rule ← fields_at rule_line top.1
+  size ← fields_at size_line rule.1
+  Ok ((rule.0, size.0), size.1)
+
+-- a tree, with which the text ends
+unfoldable pub last_at : TextLeft → Result Plain CertFault
+last_at p = do
+  tree ← node_at MOST_DEPTH p.0 p
+  if length tree.1.1 == 0 then Ok tree.0 else Err (fault Tail tree.1.0)
 
 -- the certificate that a text is, or its first fault
 unfoldable pub cert_at : List ℕ → Result Cert CertFault

@@ -1,8 +1,8 @@
 // Reading a certificate.
 ghost use Rattle.std.specs.Prelude.{◌≡◌, ◌<◌, ◌≤◌, ◌+◌, ◌^◌, OnOk, IfOk, IfErr, Ok};
 ghost use Rattle.cert_text.specs.Reading.{ReadsPart, ReadsOn, ReadsCert, fields_at, many_at, text_left};
-ghost use Rattle.cert_text.specs.HeadLines.{reported_line, goal_line, put_line, put_count};
-ghost use Rattle.cert_text.specs.CertReading.{turn_at, body_at, cert_at};
+ghost use Rattle.cert_text.specs.HeadLines.{reported_line, claim_line, goal_line, put_line, put_count};
+ghost use Rattle.cert_text.specs.CertReading.{top_at, turn_at, body_at, last_at, cert_at};
 ghost use Rattle.cert_text.specs.CertText.{CertText};
 ghost use Rattle.cert_text.specs.declared.cert.Cert.{Cert};
 ghost use Rattle.cert_text.specs.declared.fault.CertKind.TheVariants.{Memory};
@@ -34,7 +34,6 @@ pub fn read_cert(alloc: Global, text: &[u8]) -> Result<Cert, CertFault>
 }
 
 /// Reads all lines.
-#[tactic(auto, using(crate::proofs::Trees::shallow), unfolding(crate::specs::CertReading::cert_at))]
 fn read_all(alloc: Global, text: &[u8]) -> Result<Cert, CertFault>
     ensures { ReadsPart (λ x. x) result (cert_at text.now) }
 {
@@ -42,20 +41,11 @@ fn read_all(alloc: Global, text: &[u8]) -> Result<Cert, CertFault>
         rest: text,
         number: 1,
     };
-    let line = reader.line()?;
-    at_number(1, read_first(line))?;
-    let line = reader.line()?;
-    let rule = at_number(2, read_rule(line))?;
-    let line = reader.line()?;
-    let (c, ballots) = at_number(3, read_size(line))?;
+    let (rule, (c, ballots)) = read_top(&mut reader)?;
     let reported = next_reported(alloc, rule, c, &mut reader)?;
-    let line = reader.line()?;
-    let claim = at_number(5, read_claim(line))?;
+    let claim = next_claim(&mut reader)?;
     let (goal, puts) = read_body(alloc, c, claim, &mut reader)?;
-    let tree = read_node(alloc, MOST_DEPTH, reader.number, &mut reader)?;
-    if !reader.rest.is_empty() {
-        return Err(fault(CertKind::Tail, reader.number));
-    }
+    let tree = read_last(alloc, &mut reader)?;
     Ok(Cert {
         rule,
         c,
@@ -64,8 +54,49 @@ fn read_all(alloc: Global, text: &[u8]) -> Result<Cert, CertFault>
         claim,
         goal,
         puts,
-        tree: BoundTree::from_tree(alloc, tree),
+        tree,
     })
+}
+
+/// The three lines at the top: the first, the rule, and the numbers of candidates and of ballots.
+#[tactic(auto, unfolding(crate::specs::CertReading::top_at))]
+fn read_top(reader: &mut Reader<'_>) -> Result<(Rule, (u8, u32)), CertFault>
+    requires { reader.old.number ≡ 1 }
+    ensures top { ReadsOn result (text_left reader.new) (top_at (text_left reader.old)) }
+    ensures number { OnOk result (reader.new.number ≡ 4) }
+{
+    let line = reader.line()?;
+    at_number(1, read_first(line))?;
+    let line = reader.line()?;
+    let rule = at_number(2, read_rule(line))?;
+    let line = reader.line()?;
+    let sizes = at_number(3, read_size(line))?;
+    Ok((rule, sizes))
+}
+
+/// The next line, which tells the claim.
+fn next_claim(reader: &mut Reader<'_>) -> Result<Claim, CertFault>
+    requires { reader.old.number + 1 < 2 ^ 32 }
+    ensures claim { ReadsOn result (text_left reader.new) (fields_at claim_line (text_left reader.old)) }
+    ensures number { OnOk result (reader.new.number ≡ reader.old.number + 1) }
+    ensures within { IfOk result (λ x. put_count x ≤ MOST_BALLOTS) }
+{
+    let number = reader.number;
+    let line = reader.line()?;
+    at_number(number, read_claim(line))
+}
+
+/// The tree, with which the text ends.
+#[tactic(auto, unfolding(crate::specs::CertReading::last_at))]
+fn read_last(alloc: Global, reader: &mut Reader<'_>) -> Result<BoundTree, CertFault>
+    requires { reader.old.number < 2 ^ 21 }
+    ensures { ReadsPart (λ x. x) result (last_at (text_left reader.old)) }
+{
+    let tree = read_node(alloc, MOST_DEPTH, reader.number, reader)?;
+    if !reader.rest.is_empty() {
+        return Err(fault(CertKind::Tail, reader.number));
+    }
+    Ok(BoundTree::from_tree(alloc, tree))
 }
 
 /// The next line, which tells the reported outcome.

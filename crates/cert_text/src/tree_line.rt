@@ -16,7 +16,7 @@ use text_lines::parts::Fields;
 use text_lines::{LineFault, any_numbers, both, fields, is_word, number, one_number, two_numbers};
 
 /// A line of a tree: a split into so many, a branch, or a cut.
-#[derive(Debug, Drop)]
+#[derive(Drop)]
 pub(crate) enum TreeLine {
     Split(u32),
     Branch(Feature, u32),

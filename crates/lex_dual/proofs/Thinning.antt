@@ -10,7 +10,7 @@ use Rattle.exact_num.proofs.Ring.{leaf, minus, times, same}
 use Rattle.pivot_form.proofs.Sums.{zero_factor, positive_factor, positive_product}
 use Rattle.row_program.specs.Forms.{Table, basic_of, entry}
 use Rattle.row_program.specs.Method.{candidates, column, column_in, difference, entering, first_least, first_least_of, lex_negative, row_of_basic, value_count}
-use Rattle.lex_dual.specs.Choices.{IsCandidate, IsOutside, comes_before_from, entering_among}
+use Rattle.lex_dual.specs.Choices.{IsCandidate, IsOutside, coefficient_in, comes_before_from, entering_among, equation_at, equation_of}
 use Rattle.std.proofs.lemmas.Bool.{cases_eq}
 use Rattle.pivot_form.specs.Invariant.{IsForm}
 use Rattle.lex_dual.proofs.Choices.{lex_past, lex_here, is_below, not_below}
@@ -265,3 +265,25 @@ among_ends t row v (j ∷ k ∷ js) (inl h) = ap Some (stays j (k ∷ js))
     stays : (b : ℕ) (is : List ℕ) → first_least (comes_before_from t row v) b is ≡ b
     stays b [] = refl
     stays b (i ∷ is) = ap (λ (x : ℕ). first_least (comes_before_from t row v) x is) (lesser_false (comes_before_from t row v) b i (never i b)) ∙ stays b is
+
+-- ---- by equations
+-- a variable's coefficient, as its equation has it
+pub coefficient_is : (t : Table) (v j : ℕ) → coefficient_in (equation_of t v) v j ≡ column t j v
+coefficient_is t v j = by (row_of_basic t v)
+  where
+    by : (o : Option ℕ) → coefficient_in (equation_at t o) v j ≡ column_in t j v o
+    by None = refl
+    by (Some i) = refl
+
+pub own_inside : (o : Option (List ℤ)) (n j : ℕ) → IfSome o (λ row. length row ≡ n + 1) → j < n → IfSome o (λ row. j + 1 < length row)
+own_inside None n j wide l = tt
+own_inside (Some row) n j wide l = omega (arith, wide, l)
+
+-- no candidate is left
+pub none_left : (t : Table) (row v : ℕ) (old : List ℕ) (num den : ℤ) (kept rest : List ℕ) → IsKept t row v old num den kept rest → rest ≡ [] → entering_among t row (v + 1) kept ≡ entering_among t row v old
+none_left t row v old num den kept rest is none =
+    sym (ap (first_least_after (comes_before_from t row v) (entering_among t row (v + 1) kept)) none ∙ after_none (entering_among t row (v + 1) kept)) ∙ is.value
+  where
+    after_none : (o : Option ℕ) → first_least_after (comes_before_from t row v) o [] ≡ o
+    after_none None = refl
+    after_none (Some best) = refl

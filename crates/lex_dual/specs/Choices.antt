@@ -1,9 +1,9 @@
 -- The table of rows, and the choices as they are made, one row or one variable at a time: what the calls inside the
 -- crate say to each other. No promise to a caller rests on these.
-use Rattle.std.specs.Prelude.{ℕ, pos, ◌<◌, ◌≤◌, ◌-◌, ◌<ℤ◌, ◌≤ℤ◌, List, map, Bool, Option, Some, None}
+use Rattle.std.specs.Prelude.{ℕ, ℤ, pos, ◌<◌, ◌≤◌, ◌-◌, ◌==◌, ◌<ℤ◌, ◌≤ℤ◌, List, map, slice_index_or, Bool, Option, Some, None, if◌then◌else◌}
 use lib.IntN.{neg_ℤ}
 use Rattle.std.specs.List.{range_with_len}
-use Rattle.row_program.specs.Forms.{IsNonbasic, Table, basic_of, entry, right_side, tableau}
+use Rattle.row_program.specs.Forms.{IsNonbasic, Table, basic_of, entry, right_side, row_of, tableau}
 use Rattle.row_program.specs.Method.{row_of_basic, value_count, column, difference, lex_negative, first_least_of}
 
 -- the row of the cost and of each variable of the program, where it is basic
@@ -16,6 +16,20 @@ IsFirstNegative t n None = (i : ℕ) → i < n → pos 0 ≤ℤ right_side t i
 IsFirstNegative t n (Some b) =
     (b < n) × (right_side t b <ℤ pos 0)
     × ((i : ℕ) → i < n → right_side t i <ℤ pos 0 → basic_of t b ≤ basic_of t i)
+
+-- the equation of the row, if there is one
+abbrev pub equation_at : Table → Option ℕ → Option (List ℤ)
+equation_at t None = None
+equation_at t (Some row) = Some (row_of t row)
+
+-- the equation of the variable v, if it is basic
+abbrev pub equation_of : Table → ℕ → Option (List ℤ)
+equation_of t v = equation_at t (row_of_basic t v)
+
+-- the coefficient of the variable v in the nonbasic variable j, by the equation of v, times the basic entry there
+abbrev pub coefficient_in : Option (List ℤ) → ℕ → ℕ → ℤ
+coefficient_in None v j = if v == j then pos 1 else pos 0
+coefficient_in (Some row) v j = neg_ℤ (slice_index_or row j (pos 0))
 
 -- the variable has a positive coefficient in the row
 abbrev pub IsCandidate : Table → ℕ → ℕ → Type 0

@@ -1,16 +1,16 @@
 // What leaves and what enters.
-ghost use Rattle.std.specs.Prelude.{◌≡◌, ◌≢◌, ◌<◌, ◌≤◌, ◌+◌, ℕ, ℤ, false, pos, ◌<ℤ◌, length, take, unsigned_abs, vec_capacity, IfSome, IfOk};
+ghost use Rattle.std.specs.Prelude.{◌≡◌, ◌≢◌, ◌<◌, ◌≤◌, ◌+◌, ℕ, ℤ, false, pos, ◌<ℤ◌, length, slice_index_or, take, unsigned_abs, vec_capacity, IfSome, IfOk};
 ghost use Rattle.std.specs.List.{All};
 ghost use lib.IntN.{neg_ℤ};
 ghost use Rattle.row_program.specs.Forms.{entry};
 ghost use Rattle.row_program.specs.Method.{leaving, entering, candidates, column};
 ghost use Rattle.pivot_form.specs.Invariant.{IsForm};
-ghost use Rattle.lex_dual.specs.Choices.{places_of, IsFirstNegative, IsCandidate, IsOutside, entering_among};
+ghost use Rattle.lex_dual.specs.Choices as spec;
+ghost use Rattle.lex_dual.specs.Choices.{places_of, IsFirstNegative, IsCandidate, IsOutside, coefficient_in, entering_among};
 
 use exact_num::{WIDE, cross};
 use mov_base::Memory;
-use pivot_form::Form;
-use std::alloc::Global;
+use pivot_form::{Equation, Form};
 
 /// The row of the first negative basic variable, in the order of variables: one pass over the rows.
 pub(crate) fn leaving(form: &Form) -> Option<usize>
@@ -41,11 +41,13 @@ fn earlier(form: &Form, found: Option<usize>, row: usize) -> Option<usize>
     }
 }
 
-/// A buffer for the candidates of any row of the form.
-pub(crate) fn candidate_buffer(alloc: Global, form: &Form) -> Result<Vec<usize>, Memory>
+/// The buffer, with room for the candidates of any row of the form.
+pub(crate) fn candidate_buffer(mut buffer: Vec<usize>, form: &Form) -> Result<Vec<usize>, Memory>
     ensures { IfOk result (λ buffer. form.now.variables ≤ vec_capacity buffer) }
 {
-    Ok(Vec::with_capacity(alloc, form.variable_count())?)
+    buffer.clear();
+    buffer.reserve(form.variable_count())?;
+    Ok(buffer)
 }
 
 /// The first of the least candidates of the row. All are written into the buffer, and thinned out there, variable by
@@ -84,8 +86,9 @@ fn write_candidates(form: &Form, row: usize, buffer: &mut Vec<usize>)
     ensures room { form.now.variables ≤ vec_capacity buffer.new }
 {
     buffer.clear();
+    let leaving = form.equation(row);
     for j in 0..form.variable_count() {
-        if form.entry(row, j) < 0 {
+        if leaving.entry(j) < 0 {
             buffer.push(j).unwrap();
         }
     }
@@ -113,11 +116,13 @@ fn thin_out(
     if !tells_apart(form, places, v, left) {
         return left.len();
     }
-    let mut least = quotient_at(form, places, row, v, left[0]);
+    let leaving = form.equation(row);
+    let own = equation_of(form, places, v);
+    let mut least = quotient_at(&leaving, &own, v, left[0]);
     let mut kept = 1;
     for i in 1..left.len() {
         let candidate = left[i];
-        let quotient = quotient_at(form, places, row, v, candidate);
+        let quotient = quotient_at(&leaving, &own, v, candidate);
         let difference = cross(quotient.num, least.den, least.num, quotient.den);
         if difference < 0 {
             least = quotient;
@@ -165,36 +170,46 @@ struct Quotient {
     den: i64,
 }
 
-/// The coefficient of the variable v in the candidate j, and that of j in the row.
-fn quotient_at(form: &Form, places: &[Option<usize>], row: usize, v: usize, j: usize) -> Quotient
+/// The equation of the variable v, where it is basic.
+fn equation_of<'a>(form: &'a Form, places: &[Option<usize>], v: usize) -> Option<Equation<'a>>
     requires form { IsForm form.now }
     requires places { places.now ≡ places_of form.now }
-    requires row { row < length form.now.rows }
     requires v { v < length places.now }
-    requires candidate { IsCandidate form.now row j }
-    ensures num { result.num ≡ column form.now j v }
-    ensures den { result.den ≡ neg_ℤ (entry form.now row j) }
+    ensures value { result ≡ spec.equation_of form.now v }
+    ensures wide { IfSome result (λ row. length row ≡ form.now.variables + 1) }
+{
+    match places[v] {
+        Some(row) => Some(form.equation(row)),
+        None => None,
+    }
+}
+
+/// The coefficient of the variable v in the candidate j, and that of j in the leaving variable's equation.
+fn quotient_at(leaving: &Equation<'_>, own: &Option<Equation<'_>>, v: usize, j: usize) -> Quotient
+    requires inside { j + 1 < length leaving.now }
+    requires own { IfSome own.now (λ row. j + 1 < length row) }
+    requires candidate { slice_index_or leaving.now j (pos 0) <ℤ pos 0 }
+    ensures num { result.num ≡ coefficient_in own.now v j }
+    ensures den { result.den ≡ neg_ℤ (slice_index_or leaving.now j (pos 0)) }
     ensures positive { pos 0 <ℤ result.den }
     ensures small_num { unsigned_abs result.num < WIDE }
     ensures small_den { unsigned_abs result.den < WIDE }
 {
     Quotient {
-        num: coefficient(form, places, j, v),
-        den: opposite(form.entry(row, j)),
+        num: coefficient(own, v, j),
+        den: opposite(leaving.entry(j)),
     }
 }
 
-/// The coefficient of the variable v, one that has a value, in the variable j, times the basic entry of the row of v.
-fn coefficient(form: &Form, places: &[Option<usize>], j: usize, v: usize) -> i64
-    requires form { IsForm form.now }
-    requires places { places.now ≡ places_of form.now }
-    requires j { j < form.now.variables }
-    requires v { v < length places.now }
-    ensures value { result ≡ column form.now j v }
+/// The coefficient of the variable v in the variable j, by the equation of v, times the basic entry there; where v has no
+/// equation, it is nonbasic.
+fn coefficient(own: &Option<Equation<'_>>, v: usize, j: usize) -> i64
+    requires own { IfSome own.now (λ row. j + 1 < length row) }
+    ensures value { result ≡ coefficient_in own.now v j }
     ensures small { unsigned_abs result < WIDE }
 {
-    match places[v] {
-        Some(row) => opposite(form.entry(row, j)),
+    match own {
+        Some(row) => opposite(row.entry(j)),
         None if v == j => 1,
         None => 0,
     }

@@ -9,6 +9,7 @@
 //! forms of `pivot_form`, on the lemmas of `dual_theory` and on the multipliers of `bound_tree`.
 #![tactic(auto)]
 
+mod buffers;
 mod choice;
 mod method;
 mod multipliers;
@@ -16,5 +17,6 @@ mod places;
 mod point;
 mod solved;
 
-pub use method::solve;
+pub use buffers::Buffers;
+pub use method::{solve, solve_in};
 pub use solved::{SolveFault, Solved};

@@ -10,6 +10,7 @@ ghost use Rattle.lex_dual.specs.Faults.{IfWide};
 ghost use Rattle.lex_dual.specs.Answers.{OnBest, OnNever, multipliers_in, HasNoPoint, IsReadAtBest, IsReadAtNever};
 ghost use Rattle.lex_dual.specs.Reached.{IsReached};
 
+use crate::buffers::Buffers;
 use crate::choice::{candidate_buffer, entering, leaving};
 use crate::multipliers::multipliers;
 use crate::places::{exchange, first_places};
@@ -19,6 +20,7 @@ use exact_num::Ratio;
 use pivot_form::Form;
 use row_program::Program;
 use std::alloc::Global;
+use std::mem::replace;
 
 /// The least cost over all points that meet the rows, with the lexicographically least point of that cost; or that no
 /// point meets them. The multipliers, one a kept row, show it for all points that meet the other rows: where the sum of
@@ -47,17 +49,57 @@ pub fn solve(alloc: Global, program: &Program) -> Result<Solved, SolveFault>
     ensures none_twice { NoneTwice program.now }
     ensures columns { ColumnsPositive program.now }
 {
-    let mut form = Form::start(alloc, program)?;
-    let mut places = first_places(alloc, program)?;
-    let mut buffer = candidate_buffer(alloc, &form)?;
+    solve_in(alloc, program, &mut Buffers::new(alloc))
+}
+
+/// The same in the memory of programs that were solved before. Of programs of one size, one after another, the third and
+/// later ones take no new memory but that of their answers; after `Wide` or want of memory the next one begins anew.
+pub fn solve_in(
+    alloc: Global,
+    program: &Program,
+    buffers: &mut Buffers,
+) -> Result<Solved, SolveFault>
+    ensures least_cost { IfOk result (OnBest (λ value _ _. IsLeastCost program.now value.num value.den)) }
+    ensures least_point { IfOk result (OnBest (λ _ _ point. IsLeastPoint program.now point.whole point.den)) }
+    ensures cost_shown { IfOk result (OnBest (λ value multipliers _.
+        BoundsCost program.now multipliers value.num value.den)) }
+    ensures no_point { IfOk result (OnNever (λ _. HasNoPoint program.now)) }
+    ensures none_shown { IfOk result (OnNever (λ multipliers. RulesOut program.now multipliers)) }
+    ensures best_multipliers { IfOk result (OnBest (λ _ multipliers _. IsReadAtBest program.now multipliers)) }
+    ensures never_multipliers { IfOk result (OnNever (λ multipliers. IsReadAtNever program.now multipliers)) }
+    ensures each_row { IfOk result (λ solved. length (multipliers_in solved) ≡ program.now.kept) }
+    ensures lowest { IfOk result (λ solved. IsLowest (multipliers_in solved)) }
+    ensures wide { IfErr result (IfWide (λ _. IsWide program.now)) }
+    ensures size { IfErr result (IfWide (λ size. IsWideSize program.now size)) }
+    ensures narrow { OnOk result (¬ IsWide program.now) }
+    ensures rises { Rises program.now }
+    ensures none_twice { NoneTwice program.now }
+    ensures columns { ColumnsPositive program.now }
+{
+    let lent = replace(buffers, Buffers::new(alloc));
+    let mut form = Form::start_in(alloc, program, lent.room)?;
+    let mut places = first_places(lent.places, program)?;
+    let mut candidates = candidate_buffer(lent.candidates, &form)?;
     while let Some(row) = leaving(&form) {
-        let Some(column) = entering(&form, places.as_slice(), row, &mut buffer) else {
-            return never(alloc, program, &form, row);
+        let Some(column) = entering(&form, places.as_slice(), row, &mut candidates) else {
+            let solved = never(alloc, program, &form, row);
+            *buffers = Buffers {
+                room: form.into_room(),
+                places,
+                candidates,
+            };
+            return solved;
         };
         exchange(places.as_mut_slice(), &form, row, column);
         form = form.pivot(row, column)?;
     }
-    best(alloc, program, &form, places.as_slice())
+    let solved = best(alloc, program, &form, places.as_slice());
+    *buffers = Buffers {
+        room: form.into_room(),
+        places,
+        candidates,
+    };
+    solved
 }
 
 /// The answer where no basic variable is negative.

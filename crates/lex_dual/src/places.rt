@@ -7,13 +7,16 @@ ghost use Rattle.lex_dual.specs.Choices.{places_of};
 use mov_base::Memory;
 use pivot_form::Form;
 use row_program::Program;
-use std::alloc::Global;
 
-/// The rows in the first form: the cost's alone.
-pub(crate) fn first_places(alloc: Global, program: &Program) -> Result<Vec<Option<usize>>, Memory>
+/// The rows in the first form, in place of what the vector held: the cost's alone.
+pub(crate) fn first_places(
+    mut places: Vec<Option<usize>>,
+    program: &Program,
+) -> Result<Vec<Option<usize>>, Memory>
     ensures { IfOk result (λ places. places.items ≡ places_of (first_form program.now)) }
 {
-    let mut places = Vec::with_capacity(alloc, program.costs.len() + 1)?;
+    places.clear();
+    places.reserve(program.costs.len() + 1)?;
     places.push(Some(0))?;
     for _cost in program.costs.as_slice() {
         places.push(None)?;

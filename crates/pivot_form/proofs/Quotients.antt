@@ -1,8 +1,7 @@
 -- Quotients that are tried, and greatest common divisors by them.
-use Rattle.std.proofs.Common.{ℕ, zero, suc, ◌≡◌, ◌<◌, ◌≤◌, ◌*◌, ◌+◌, arith, refl, ap, sym, ◌∙◌, subst, List, [], ◌∷◌, get_or, length}
+use Rattle.std.proofs.Common.{ℕ, zero, suc, ◌≡◌, ◌<◌, ◌≤◌, ◌*◌, arith, ap, sym, ◌∙◌, subst}
 use Rattle.std.specs.Prelude.{ℤ, pos, negsuc, ◌*ℤ◌, ◌<ℤ◌, ◌≤ℤ◌, unsigned_abs, nat_eq, IsTrue}
 use Prim.Native.Nat.{◌∣◌}
-use Rattle.std.specs.List.{All, fold}
 use Rattle.std.specs.Int.{IsGcd}
 use Rattle.std.specs.Int.RustNames.{int_div, FitsSigned}
 use Rattle.std.proofs.lemmas.Bool.Decides.{nat_tests}

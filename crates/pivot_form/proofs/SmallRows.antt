@@ -1,5 +1,5 @@
 -- Rows in 64 bits: products that have room, and the greatest common divisor from any entry on.
-use Rattle.std.proofs.Common.{ℕ, zero, suc, ◌≡◌, ◌<◌, ◌≤◌, ◌*◌, ◌+◌, arith, refl, ap, sym, ◌∙◌, subst, List, get_or, length, take, inl, inr}
+use Rattle.std.proofs.Common.{ℕ, ◌≡◌, ◌<◌, ◌≤◌, ◌*◌, ◌+◌, arith, sym, ◌∙◌, subst, List, get_or, length, take, inl, inr}
 use Rattle.std.specs.Prelude.{ℤ, pos, ◌*ℤ◌, ◌-ℤ◌, unsigned_abs}
 use Prim.Native.Nat.{◌∣◌}
 use Rattle.std.specs.List.{All, fold}

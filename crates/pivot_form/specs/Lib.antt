@@ -1,5 +1,6 @@
 pub mod Invariant
 pub mod Kept
+pub mod Origins
 pub mod Shorts
 pub mod Sizes
 pub mod Starts

@@ -19,7 +19,8 @@ fn mirror(row: &mut [i64], width: usize, sum: i64)
     requires wide { length row.old ≡ width + 2 }
     requires small_row { All (λ x. unsigned_abs x < WIDE) row.old }
     requires small_sum { unsigned_abs sum < WIDE }
-    requires narrow { unsigned_abs (slice_index_or row.old width (pos 0) *ℤ sum -ℤ slice_index_or row.old (width + 1) (pos 0)) < WIDE }
+    requires narrow { unsigned_abs (slice_index_or row.old width (pos 0) *ℤ sum
+        -ℤ slice_index_or row.old (width + 1) (pos 0)) < WIDE }
     ensures { row.new ≡ mirrored width sum row.old }
 {
     let (own, right) = (row[width], row[width + 1]);

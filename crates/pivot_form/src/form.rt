@@ -1,13 +1,15 @@
 // Forms, the first of them, and their pivots.
 ghost use Rattle.std.specs.Prelude.{◌≡◌, ◌≢◌, ◌<◌, ◌+◌, ℕ, ℤ, pos, ◌↔◌, length, MatchOption, MatchResult, IfOk, IfSome, OnOk, IsTrue, Some, None, slice_index};
-ghost use Rattle.row_program.specs.Forms.{entry, right_side, basic_of, tableau, first_form, next_form, first_large_of, Holds, IsNonbasic, IsSolved, IsReduced};
+ghost use Rattle.row_program.specs.Forms.{entry, right_side, row_of, basic_of, tableau, first_form, next_form, first_large_of, Holds, IsNonbasic, IsSolved, IsReduced};
 ghost use Rattle.pivot_form.specs.Kept.{table_of, variables_of};
 ghost use Rattle.pivot_form.specs.Shorts.{AreSumsUpTo, IsShort, store_of};
 
+use crate::equation::Equation;
 use crate::exchanges::{pivot, unpair};
 use crate::narrow::surely_narrow;
 use crate::pairs::most_sum;
 use crate::places::Place;
+use crate::room::{Room, filled};
 use crate::short::Short;
 use crate::start::first_short;
 use crate::whole_rows::first_large;
@@ -29,6 +31,7 @@ pub struct Wide {
 pub struct Form {
     short: Short,
     most_sum: u64,
+    spare: Vec<Vec<i64>>,
     lead: Vec<i64>,
     scratch: Vec<i128>,
     whole_lead: Vec<i64>,
@@ -64,19 +67,45 @@ impl Form {
         ensures reduced { IfOk result IsReduced }
         ensures narrow { IfOk result (λ form. first_large_of form.rows ≡ None) }
     {
-        let short = first_short(alloc, program)?;
+        Form::start_in(alloc, program, Room::new(alloc))
+    }
+
+    /// The same in the memory of another form, which may be of another program. Of forms of one size, one in the memory
+    /// of the other, the third and later ones take no more.
+    pub fn start_in(alloc: Global, program: &Program, room: Room) -> Result<Form, Memory>
+        ensures value { IfOk result (λ form. form ≡ first_form program.now) }
+        ensures solved { IfOk result (λ form. IsSolved (tableau form)) }
+        ensures reduced { IfOk result IsReduced }
+        ensures narrow { IfOk result (λ form. first_large_of form.rows ≡ None) }
+    {
+        let mut spare = room.spare;
+        let short = first_short(alloc, program, room.short, &mut spare)?;
         let most_sum = most_sum(short.pairs.as_slice());
         let width = short.width + 2;
         let whole = short.places.len() + 1;
         Ok(Form {
             short,
             most_sum,
-            lead: vec![in alloc; 0; width]?,
-            scratch: vec![in alloc; 0; width]?,
-            whole_lead: vec![in alloc; 0; whole]?,
-            whole_row: vec![in alloc; 0; whole]?,
-            whole_scratch: vec![in alloc; 0; whole]?,
+            spare,
+            lead: filled(room.lead, 0, width)?,
+            scratch: filled(room.scratch, 0, width)?,
+            whole_lead: filled(room.whole_lead, 0, whole)?,
+            whole_row: filled(room.whole_row, 0, whole)?,
+            whole_scratch: filled(room.whole_scratch, 0, whole)?,
         })
+    }
+
+    /// The form's memory, for another form.
+    pub fn into_room(self) -> Room {
+        Room {
+            short: self.short,
+            spare: self.spare,
+            lead: self.lead,
+            scratch: self.scratch,
+            whole_lead: self.whole_lead,
+            whole_row: self.whole_row,
+            whole_scratch: self.whole_scratch,
+        }
     }
 
     /// How many equations the form has.
@@ -101,13 +130,22 @@ impl Form {
         self.short.basic(row)
     }
 
+    /// The equation of the row, for reading many of its entries.
+    pub fn equation(&self, row: usize) -> Equation<'_>
+        requires { row < length self.now.rows }
+        ensures value { result ≡ row_of self.now row }
+        ensures wide { length result ≡ self.now.variables + 1 }
+    {
+        Equation::new(&self.short, self.short.basic(row))
+    }
+
     /// The entry of the variable with the column's number in the row.
     pub fn entry(&self, row: usize, column: usize) -> i64
         requires row { row < length self.now.rows }
         requires column { column < self.now.variables }
         ensures { result ≡ entry self.now row column }
     {
-        self.short.entry(self.short.basic(row), column)
+        self.equation(row).entry(column)
     }
 
     /// The one variable besides the basic one that the equation of the row has, where that is told at once: it is so of an

@@ -8,15 +8,19 @@
 
 mod clearing;
 mod divisor;
+mod equation;
 mod exchanges;
 mod form;
 mod narrow;
 mod pairs;
 mod places;
+mod room;
 mod rows;
 mod short;
 mod small_rows;
 mod start;
 mod whole_rows;
 
+pub use equation::Equation;
 pub use form::{Form, Wide};
+pub use room::Room;

@@ -4,18 +4,22 @@ ghost use Rattle.pivot_form.specs.Shorts.{AreSumsUpTo};
 ghost use Rattle.pivot_form.specs.Starts.{ArePairs, IsClassRow, paired_up};
 
 use crate::places::Pair;
+use crate::room::filled;
 use mov_base::Memory;
 use row_program::{Program, Row};
-use std::alloc::Global;
 
 /// For each variable and each slack its pair, if it has one. A row is a pair's that says of a variable alone that it is at
-/// most a number of 0 or more, if it is the first one for that variable and no kept row.
-pub(crate) fn pairs_of(alloc: Global, program: &Program) -> Result<Vec<Option<Pair>>, Memory>
+/// most a number of 0 or more, if it is the first one for that variable and no kept row. They take the place of what the
+/// vector held.
+pub(crate) fn pairs_of(
+    pairs: Vec<Option<Pair>>,
+    program: &Program,
+) -> Result<Vec<Option<Pair>>, Memory>
     ensures { IfOk result (λ pairs.
         ArePairs (length program.now.costs) program.now.rows (length program.now.rows) pairs.items) }
 {
     let variables = program.costs.len();
-    let mut pairs = vec![in alloc; None; 1 + variables + program.rows.len()]?;
+    let mut pairs = filled(pairs, None, 1 + variables + program.rows.len())?;
     for (i, row) in program.rows.as_slice().iter().enumerate() {
         if i >= program.kept
             && let Some(variable) = class_variable(row)

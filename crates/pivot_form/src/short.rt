@@ -67,21 +67,8 @@ impl Short {
         }
     }
 
-    /// The entry of the variable in the equation of a basic variable.
-    pub(crate) fn entry(&self, basic: usize, variable: usize) -> i64
-        requires short { IsShort (store_of self.now) }
-        requires basic { IsBasic (store_of self.now) basic }
-        requires variable { variable < variables_of (store_of self.now) }
-        ensures { result ≡ entry_of (store_of self.now) basic variable }
-    {
-        match self.places[basic] {
-            Place::Kept(slot) => self.kept_entry(slot, variable),
-            _ => self.paired_entry(basic, self.pair(basic), variable),
-        }
-    }
-
     /// The pair of a basic variable whose equation isn't kept.
-    fn pair(&self, basic: usize) -> Pair
+    pub(crate) fn pair(&self, basic: usize) -> Pair
         requires short { IsShort (store_of self.now) }
         requires within { basic < variables_of (store_of self.now) }
         requires paired { place_of (store_of self.now) basic ≡ Paired }
@@ -93,25 +80,10 @@ impl Short {
         }
     }
 
-    /// The entry of the variable in the equation of a basic variable that follows from its pair.
-    #[tactic(auto, using(crate::proofs::Shorts::other_within))]
-    fn paired_entry(&self, basic: usize, pair: Pair, variable: usize) -> i64
-        requires short { IsShort (store_of self.now) }
-        requires basic { IsBasic (store_of self.now) basic }
-        requires paired { place_of (store_of self.now) basic ≡ Paired }
-        requires pair { pair_of (store_of self.now) basic ≡ Some pair }
-        requires variable { variable < variables_of (store_of self.now) }
-        ensures { result ≡ entry_of (store_of self.now) basic variable }
-    {
-        match self.places[pair.other] {
-            Place::Kept(slot) => self.mirror_entry(slot, basic, pair, variable),
-            _ => i64::from(variable == basic || variable == pair.other),
-        }
-    }
-
-    /// The same, where the equation of the pair's other variable is kept in this slot.
+    /// The entry of the variable in the equation of a basic variable, where that of its pair's other variable is kept in
+    /// this slot.
     #[tactic(auto, using(crate::proofs::Shorts::slot_within))]
-    fn mirror_entry(&self, slot: usize, basic: usize, pair: Pair, variable: usize) -> i64
+    pub(crate) fn mirror_entry(&self, slot: usize, basic: usize, pair: Pair, variable: usize) -> i64
         requires short { IsShort (store_of self.now) }
         requires basic { IsBasic (store_of self.now) basic }
         requires paired { place_of (store_of self.now) basic ≡ Paired }

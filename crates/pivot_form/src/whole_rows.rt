@@ -5,6 +5,7 @@ ghost use Rattle.row_program.specs.Forms.{eliminated, entry, first_large, first_
 ghost use Rattle.pivot_form.specs.Kept.{table_of, variables_of, whole_row};
 ghost use Rattle.pivot_form.specs.Shorts.{IsBasic, IsShort, store_of};
 
+use crate::equation::Equation;
 use crate::rows::{clear, find_large, turn};
 use crate::short::Short;
 use exact_num::WIDE;
@@ -18,8 +19,9 @@ pub(crate) fn write_row(short: &Short, basic: usize, out: &mut [i64])
     ensures small { All (λ x. unsigned_abs x < WIDE) out.new }
 {
     let variables = short.places.len();
+    let equation = Equation::new(short, basic);
     for variable in 0..variables {
-        out[variable] = short.entry(basic, variable);
+        out[variable] = equation.entry(variable);
     }
     out[variables] = short.right(basic);
 }

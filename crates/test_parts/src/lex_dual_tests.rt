@@ -1,8 +1,8 @@
 // Programs whose answers were worked out by hand or by a program outside.
 use crate::programs::{costs_of, numbers, program, push_rows, row_of};
-use lex_dual::{SolveFault, Solved, solve};
+use lex_dual::{Buffers, SolveFault, Solved, solve, solve_in};
 use mov_base::{List, Memory};
-use row_program::{Row, RowList};
+use row_program::{Program, Row, RowList};
 use std::alloc::Global;
 use std::process::Abort;
 use std::test::Fail;
@@ -48,40 +48,36 @@ fn answer_text(
     }
 }
 
-/// What it answers of these costs, these kept rows and other rows.
-fn solved(
-    alloc: Global,
-    costs: &str,
-    kept: RowList,
-    other: &str,
-) -> Result<(String, Vec<u64>), Fail> {
+/// The program of these costs, these kept rows and other rows.
+fn program_of(alloc: Global, costs: &str, kept: RowList, other: &str) -> Result<Program, Fail> {
     let count = kept.len();
     let mut rows = kept;
     push_rows(alloc, &mut rows, other)?;
-    let program = program(costs_of(alloc, costs)?, rows, count)?;
-    answer_text(alloc, solve(alloc, &program))
+    program(costs_of(alloc, costs)?, rows, count)
 }
 
-/// What it answers of the rows of two texts, the first of which are kept.
+/// What it answers of the rows of two texts, the first of which are kept, in memory that is lent from line to line.
 fn solved_texts(
     alloc: Global,
+    buffers: &mut Buffers,
     costs: &str,
     kept: &str,
     other: &str,
 ) -> Result<(String, Vec<u64>), Fail> {
     let mut rows = List::new(alloc);
     push_rows(alloc, &mut rows, kept)?;
-    solved(alloc, costs, rows, other)
+    let program = program_of(alloc, costs, rows, other)?;
+    answer_text(alloc, solve_in(alloc, &program, buffers))
 }
 
 /// A line of the worked programs: the method finds what it says, with these multipliers.
-fn works(rt: &impl Abort, alloc: Global, line: &str) -> Result<(), Fail> {
+fn works(rt: &impl Abort, alloc: Global, buffers: &mut Buffers, line: &str) -> Result<(), Fail> {
     let mut fields = line.splitn(5, ';');
     let costs = fields.next().ok_or("no costs")?;
     let kept = fields.next().ok_or("no kept rows")?;
     let other = fields.next().ok_or("no other rows")?;
     let multipliers = fields.next().ok_or("no multipliers")?;
-    let (text, found) = solved_texts(alloc, costs, kept, other)?;
+    let (text, found) = solved_texts(alloc, buffers, costs, kept, other)?;
     assert_eq!(rt; text.as_str(), fields.next().ok_or("no answer")?.trim());
     let found = spaced(alloc, found.as_slice())?;
     assert_eq!(rt; found.as_str().trim(), multipliers.trim());
@@ -90,11 +86,12 @@ fn works(rt: &impl Abort, alloc: Global, line: &str) -> Result<(), Fail> {
 
 #[test]
 fn worked_programs(rt: HostRuntime) -> Result<(), Fail> {
+    let mut buffers = Buffers::new(rt.alloc());
     for line in THREE_SMALL_PROGRAMS.lines() {
-        works(&rt, rt.alloc(), line)?;
+        works(&rt, rt.alloc(), &mut buffers, line)?;
     }
     for line in NUMBERS_PAST_63_BITS.lines() {
-        works(&rt, rt.alloc(), line)?;
+        works(&rt, rt.alloc(), &mut buffers, line)?;
     }
     Ok(())
 }
@@ -145,7 +142,8 @@ fn solved_sum(
     let variables = costs_of(alloc, costs)?.len();
     let mut rows = List::new(alloc);
     rows.push(weighted(alloc, variables, kept, multipliers)?)?;
-    let (text, _) = solved(alloc, costs, rows, other)?;
+    let program = program_of(alloc, costs, rows, other)?;
+    let (text, _) = answer_text(alloc, solve(alloc, &program))?;
     Ok(text)
 }
 
@@ -159,13 +157,13 @@ fn cost_in(text: &str) -> &str {
 
 /// A line of the drawn programs: the method finds what it says, and its multipliers show it: with their sum in place of the
 /// kept rows there is the same least cost, or no point.
-fn agrees(rt: &impl Abort, alloc: Global, line: &str) -> Result<(), Fail> {
+fn agrees(rt: &impl Abort, alloc: Global, buffers: &mut Buffers, line: &str) -> Result<(), Fail> {
     let mut fields = line.splitn(4, ';');
     let costs = fields.next().ok_or("no costs")?;
     let kept = fields.next().ok_or("no kept rows")?;
     let other = fields.next().ok_or("no other rows")?;
     let expected = fields.next().ok_or("no answer")?;
-    let (text, multipliers) = solved_texts(alloc, costs, kept, other)?;
+    let (text, multipliers) = solved_texts(alloc, buffers, costs, kept, other)?;
     assert_eq!(rt; text.as_str(), expected.trim());
     let sum = solved_sum(alloc, costs, kept, other, multipliers.as_slice())?;
     assert_eq!(rt; cost_in(sum.as_str()), cost_in(text.as_str()));
@@ -174,8 +172,9 @@ fn agrees(rt: &impl Abort, alloc: Global, line: &str) -> Result<(), Fail> {
 
 #[test]
 fn drawn_programs(rt: HostRuntime) -> Result<(), Fail> {
+    let mut buffers = Buffers::new(rt.alloc());
     for line in DRAWN.lines() {
-        agrees(&rt, rt.alloc(), line)?;
+        agrees(&rt, rt.alloc(), &mut buffers, line)?;
     }
     Ok(())
 }

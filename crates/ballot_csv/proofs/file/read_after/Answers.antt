@@ -13,4 +13,4 @@ pub returns : goal.returns
 returns c =
     let e = c.in-Ok.ensures in
     let r = c.in_ok-add_records.ensures in
-    all_good (fields_of c.args.head.now) c.args.records c.in-Ok.names.0 c.in-Ok.names.1 c.new-roll.result c.add_records.new.roll c.len.result e.good e.names e.index c.len.ensures c.new-roll.ensures r.good r.ballots r.names
+    all_good (fields_of c.args.head.now) c.args.records.now c.in-Ok.names.0 c.in-Ok.names.1 c.new-roll.result c.add_records.new.roll c.len.result e.good e.names e.index c.len.ensures c.new-roll.ensures r.good r.ballots r.names

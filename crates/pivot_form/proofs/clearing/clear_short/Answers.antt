@@ -1,4 +1,4 @@
-use Rattle.std.proofs.Common.{rules, arith, ◌≡◌, get_or, sym, subst, List, None}
+use Rattle.std.proofs.Common.{rules, ◌≡◌, get_or, sym, subst, List, None}
 use Rattle.std.specs.Prelude.{ℤ, pos}
 use Rattle.row_program.specs.Forms.{first_large}
 use Rattle.pivot_form.specs.Kept.{cleared_by}

@@ -1,9 +1,6 @@
-use Rattle.std.proofs.Common.{arith, ap, sym, ◌∙◌, subst, ◌≡◌, ◌+◌, ℕ, length, get_or, List, [], None, Option, Bool, cond, set}
+use Rattle.std.proofs.Common.{arith, ap, sym, ◌∙◌, subst, ◌≡◌, ◌+◌, ℕ, length, get_or, List, [], Option, Bool, cond, set}
 use Rattle.std.specs.Prelude.{ℤ}
-use Rattle.std.proofs.lemmas.Int.{to_z-of_z}
-use mir.Syntax.{w64}
-use mir.Val.{to_z, of_z}
-use Rattle.row_program.specs.Forms.{first_large, map_from}
+use Rattle.row_program.specs.Forms.{first_large}
 use Rattle.pivot_form.specs.Invariant.{IsEquation, row_lists}
 use Rattle.pivot_form.specs.Kept.{cleared_by, is_slot, next_by}
 use Rattle.pivot_form.proofs.Equations.{map_front_from_all, length-row_lists}

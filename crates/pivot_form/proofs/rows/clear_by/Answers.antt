@@ -1,9 +1,8 @@
-use Rattle.std.proofs.Common.{arith, rules, ◌≡◌, ◌∙◌, sym, subst, ap, ◌<◌, ◌^◌, List}
-use Rattle.std.specs.Prelude.{ℤ, pos, ◌*ℤ◌, ◌<ℤ◌, unsigned_abs}
+use Rattle.std.proofs.Common.{arith, rules, ◌∙◌, sym, subst, ap, ◌<◌, ◌^◌, List}
+use Rattle.std.specs.Prelude.{ℤ, unsigned_abs}
 use Rattle.std.specs.List.{All}
 use Rattle.exact_num.specs.declared.limits.TheConstants.{WIDE}
 use Rattle.exact_num.specs.Divisors.{primitive}
-use Rattle.row_program.specs.Forms.{combination}
 use Rattle.pivot_form.proofs.Equations.{small_combination, primitive_factor}
 use Rattle.pivot_form.proofs.Factors.{is_factor, kept_is, made_is}
 use Rattle.pivot_form.proofs.rows.clear_by.Goals as goal

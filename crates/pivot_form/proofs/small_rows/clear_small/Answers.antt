@@ -1,4 +1,4 @@
-use Rattle.std.proofs.Common.{arith, rules, ◌≡◌, ◌∙◌, sym, subst, ap, ◌<◌, List, refl}
+use Rattle.std.proofs.Common.{rules, ◌∙◌, sym, subst, ap, ◌<◌, List, refl}
 use Rattle.std.specs.Prelude.{ℤ, unsigned_abs}
 use Rattle.std.specs.List.{All}
 use Rattle.exact_num.specs.declared.limits.TheConstants.{WIDE}

@@ -5,7 +5,7 @@ use Rattle.std.specs.Int.RustNames.{FitsSigned}
 use Rattle.std.proofs.lemmas.Int.{ints, to_z-of_z}
 use Rattle.std.proofs.lemmas.List.{take_all}
 use mir.Syntax.{w64}
-use Rattle.exact_num.specs.Divisors.{gcd_with, row_gcd}
+use Rattle.exact_num.specs.Divisors.{gcd_with}
 use Rattle.pivot_form.proofs.SmallRows.{started, stays_one}
 use Rattle.pivot_form.proofs.small_rows.row_divisor.Goals as goal
 

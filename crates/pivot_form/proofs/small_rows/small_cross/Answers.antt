@@ -1,10 +1,9 @@
 use Rattle.std.proofs.Common.{refl}
-use Rattle.std.specs.Prelude.{◌*ℤ◌, ◌-ℤ◌, unsigned_abs, ◌*◌, ◌+◌, ◌<◌}
+use Rattle.std.specs.Prelude.{◌*ℤ◌, ◌-ℤ◌, unsigned_abs, ◌*◌}
 use Rattle.std.specs.Int.RustNames.{FitsSigned}
 use Rattle.std.proofs.Common.{arith}
 use Rattle.std.proofs.lemmas.Int.{to_z-of_z}
 use mir.Syntax.{w64}
-use Rattle.exact_num.specs.declared.limits.TheConstants.{WIDE}
 use Rattle.pivot_form.proofs.SmallRows.{small_difference, small_product}
 use Rattle.pivot_form.proofs.small_rows.small_cross.Goals as goal
 

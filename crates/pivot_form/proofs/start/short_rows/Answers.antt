@@ -17,7 +17,7 @@ loop-i-init c =
     let v = c.in_ok-short_cost.field-0 in
     let made = c.in_ok-short_cost.ensures in
     let rows : row_lists c.push.new.self.items ≡ v.items ∷ [] =
-    ap row_lists c.in_ok-push.ensures.items ∙ row_lists-push c.in_ok-rows.rows.items v ∙ ap (λ (xs : List (Vec ℤ _)). row_lists xs ++ v.items ∷ []) c.in_ok-rows.ensures.items in
+    ap row_lists c.in_ok-push.ensures.items ∙ row_lists-push c.in_ok-rows.rows.items v ∙ ap (λ (xs : List (Vec ℤ _)). row_lists xs ++ v.items ∷ []) c.in_ok-rows.ensures in
     subst (AreFirstRows p pairs 1) (sym rows)
     (rows_more p pairs [] v.items 0 1 (rows_none p pairs) refl (no_cost_pair (length p.costs) p.rows (length p.rows) pairs c.requires.pairs)
     (cost_first p c.as_slice.result.now v.items c.as_slice.ensures made.width made.columns made.own made.right))

@@ -1,4 +1,4 @@
-use Rattle.std.proofs.Common.{arith, ◌≡◌, ◌<◌, ◌∙◌, List, set, subst, sym}
+use Rattle.std.proofs.Common.{arith, ap, length, ◌+◌, ◌≡◌, ◌<◌, ◌∙◌, List, set, subst, sym}
 use Rattle.std.specs.Prelude.{ℤ, unsigned_abs}
 use Rattle.std.specs.List.{All}
 use mir.Syntax.{w64}
@@ -7,7 +7,8 @@ use Rattle.exact_num.specs.declared.limits.TheConstants.{WIDE}
 use Rattle.pivot_form.specs.Kept.{whole_row}
 use Rattle.pivot_form.specs.Shorts.{store_of}
 use Rattle.pivot_form.proofs.Shorts.{equation, kept_bits, right_small}
-use Rattle.pivot_form.proofs.WholeRows.{row_finished}
+use Rattle.pivot_form.proofs.Whole.{width_at}
+use Rattle.pivot_form.proofs.WholeRows.{entry_written, row_finished}
 use Rattle.pivot_form.proofs.whole_rows.write_row.Goals as goal
 
 made : (c : goal.After-right) → set c.loop-variable.out c.len-variables.result (to_z w64 (of_z w64 c.right.result)) ≡ whole_row (store_of c.args.short.now) c.args.basic
@@ -19,6 +20,16 @@ made c =
     (omega (arith, c.loop-variable.auto.out, c.requires.wide))
     (λ v l. c.loop-variable.invariant v (omega (arith, l, c.loop-variable-test.false)))
     (kept_bits c.right.result small ∙ c.right.ensures)
+
+pub entry-requires : goal.entry-requires
+entry-requires c = omega (arith, c.loop-variable-test.true, ap length c.new-equation.ensures, width_at (store_of c.args.short.now) c.args.basic, c.len-variables.ensures, c.args.short.now.places.ok.0)
+
+pub loop-variable-preserved : goal.loop-variable-preserved
+loop-variable-preserved c =
+    let s = store_of c.args.short.now in
+    let inside : c.loop-variable.variable + 1 < length c.new-equation.result = omega (arith, c.loop-variable-test.true, ap length c.new-equation.ensures, width_at s c.args.basic, c.len-variables.ensures, c.args.short.now.places.ok.0) in
+    let wide : c.loop-variable.variable < length c.loop-variable.out = omega (arith, inside, ap length c.new-equation.ensures, width_at s c.args.basic, c.loop-variable.auto.out, c.requires.wide) in
+    entry_written s c.args.basic c.loop-variable.variable c.loop-variable.out c.new-equation.result c.entry.result (sym c.new-equation.ensures) inside wide c.entry.ensures.small c.entry.ensures.value c.loop-variable.invariant
 
 pub returns-clause-value : goal.returns-clause-value
 returns-clause-value c = made c

@@ -7,8 +7,8 @@ use Rattle.lex_dual.specs.Choices.{places_of}
 use Rattle.lex_dual.specs.Reached.{IsReached}
 use Rattle.dual_theory.proofs.Rising.{rises, none_twice, columns_positive}
 use Rattle.dual_theory.proofs.Wide.{wide_size}
-use Rattle.lex_dual.proofs.Reaching.{reached_variables, reached_next, enters_nonbasic, leaves_not_cost, wide_next, falls}
-use Rattle.lex_dual.proofs.method.solve.Goals as goal
+use Rattle.lex_dual.proofs.Reaching.{reached_form, reached_variables, reached_next, enters_nonbasic, leaves_not_cost, wide_next, falls}
+use Rattle.lex_dual.proofs.method.solve_in.Goals as goal
 
 pub returns-in_err-form-clause-rises : goal.returns-in_err-form-clause-rises
 returns-in_err-form-clause-rises c = rises c.args.program.now
@@ -28,14 +28,14 @@ returns-in_err-places-clause-none_twice c = none_twice c.args.program.now
 pub returns-in_err-places-clause-columns : goal.returns-in_err-places-clause-columns
 returns-in_err-places-clause-columns c = columns_positive c.args.program.now
 
-pub returns-in_err-buffer-clause-rises : goal.returns-in_err-buffer-clause-rises
-returns-in_err-buffer-clause-rises c = rises c.args.program.now
+pub returns-in_err-candidates-clause-rises : goal.returns-in_err-candidates-clause-rises
+returns-in_err-candidates-clause-rises c = rises c.args.program.now
 
-pub returns-in_err-buffer-clause-none_twice : goal.returns-in_err-buffer-clause-none_twice
-returns-in_err-buffer-clause-none_twice c = none_twice c.args.program.now
+pub returns-in_err-candidates-clause-none_twice : goal.returns-in_err-candidates-clause-none_twice
+returns-in_err-candidates-clause-none_twice c = none_twice c.args.program.now
 
-pub returns-in_err-buffer-clause-columns : goal.returns-in_err-buffer-clause-columns
-returns-in_err-buffer-clause-columns c = columns_positive c.args.program.now
+pub returns-in_err-candidates-clause-columns : goal.returns-in_err-candidates-clause-columns
+returns-in_err-candidates-clause-columns c = columns_positive c.args.program.now
 
 pub returns-in_default-entering-clause-rises : goal.returns-in_default-entering-clause-rises
 returns-in_default-entering-clause-rises c = rises c.args.program.now
@@ -63,6 +63,15 @@ returns-clause-none_twice c = none_twice c.args.program.now
 
 pub returns-clause-columns : goal.returns-clause-columns
 returns-clause-columns c = columns_positive c.args.program.now
+
+pub leaving-requires : goal.leaving-requires
+leaving-requires c = reached_form c.args.program.now c.loop-row.form c.loop-row.invariant.reached
+
+pub entering-requires-clause-form : goal.entering-requires-clause-form
+entering-requires-clause-form c = reached_form c.args.program.now c.loop-row.form c.loop-row.invariant.reached
+
+pub exchange-requires-clause-form : goal.exchange-requires-clause-form
+exchange-requires-clause-form c = reached_form c.args.program.now c.loop-row.form c.loop-row.invariant.reached
 
 pub entering-requires-clause-room : goal.entering-requires-clause-room
 entering-requires-clause-room c = omega (arith, reached_variables c.args.program.now c.loop-row.form c.loop-row.invariant.reached, c.loop-row.invariant.room)
