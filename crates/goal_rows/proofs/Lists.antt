@@ -10,7 +10,7 @@ use Rattle.std.proofs.lemmas.List.Concat.{flat_map-cons}
 use Rattle.std.proofs.lemmas.Grind.{flat_map-append}
 use Rattle.std.proofs.lemmas.List.Kept.{AllPairs-cons}
 use Rattle.goal_rows.specs.declared.goals.Goal.{Goal}
-use Rattle.goal_rows.specs.Goals.{those}
+use Rattle.goal_rows.specs.Suffixes.{those}
 
 -- ---- one candidate more
 
@@ -31,24 +31,24 @@ those_suc c test =
     let z : 0 + c ≡ c = omega arith in
     ap (filter test) (range_suc 0 c ∙ ap (λ k. range_with_len 0 c ++ k ∷ []) z) ∙ filter-append test (range_with_len 0 c) (c ∷ [])
 
-made_suc : (f : ℕ → Goal) (test : ℕ → Bool) (c : ℕ) → map f (those (suc c) test) ≡ map f (those c test) ++ map f (cond (test c) (c ∷ []) [])
+made_suc : {X : Type 0} (f : ℕ → X) (test : ℕ → Bool) (c : ℕ) → map f (those (suc c) test) ≡ map f (those c test) ++ map f (cond (test c) (c ∷ []) [])
 made_suc f test c = ap (map f) (those_suc c test) ∙ map-append f (those c test) (cond (test c) (c ∷ []) [])
 
--- goals behind others: one that passes, or one that doesn't
-pub added_one : (f : ℕ → Goal) (test : ℕ → Bool) (c : ℕ) (before roots : List Goal) → roots ≡ before ++ map f (those c test) → test c ≡ true
+-- what is made of candidates, behind others: of one that passes, or of one that doesn't
+pub added_one : {X : Type 0} (f : ℕ → X) (test : ℕ → Bool) (c : ℕ) (before roots : List X) → roots ≡ before ++ map f (those c test) → test c ≡ true
     → roots ++ f c ∷ [] ≡ before ++ map f (those (c + 1) test)
 added_one f test c before roots is passes =
     let e : c + 1 ≡ suc c = omega arith in
     rw (e, made_suc f test c, passes, is) (append_assoc before (map f (those c test)) (f c ∷ []))
 
-pub added_none : (f : ℕ → Goal) (test : ℕ → Bool) (c : ℕ) (before roots : List Goal) → roots ≡ before ++ map f (those c test) → test c ≡ false
+pub added_none : {X : Type 0} (f : ℕ → X) (test : ℕ → Bool) (c : ℕ) (before roots : List X) → roots ≡ before ++ map f (those c test) → test c ≡ false
     → roots ≡ before ++ map f (those (c + 1) test)
 added_none f test c before roots is fails =
     let e : c + 1 ≡ suc c = omega arith in
     rw (e, made_suc f test c, fails, is) (ap (λ xs. before ++ xs) (sym (append-nil (map f (those c test)))))
 
 -- the lists of all candidates before one, and its own
-pub list_more : (f : ℕ → List Goal) (g : ℕ) (before roots : List Goal) → before ≡ flat_map f (range_with_len 0 g) → roots ≡ before ++ f g
+pub list_more : {X : Type 0} (f : ℕ → List X) (g : ℕ) (before roots : List X) → before ≡ flat_map f (range_with_len 0 g) → roots ≡ before ++ f g
     → roots ≡ flat_map f (range_with_len 0 (g + 1))
 list_more f g before roots is added =
     rw (range_more g, flat_map-append f (range_with_len 0 g) (g ∷ []), ← is, flat_map-cons f g []) (added ∙ ap (λ xs. before ++ xs) (sym (append-nil (f g))))

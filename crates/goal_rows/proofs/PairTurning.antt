@@ -22,13 +22,13 @@ use Rattle.ballot_form.specs.declared.rule.Rule.TheVariants.{Plurality, Borda, C
 use Rattle.condorcet_count.specs.Preferences.{pref_of, prefers}
 use Rattle.condorcet_count.specs.Settlings.{IsAdmittedOutcome}
 use Rattle.goal_rows.specs.declared.goals.Goal.{Goal}
-use Rattle.goal_rows.specs.declared.goals.Goal.TheVariants.{Root, Pair}
+use Rattle.goal_rows.specs.declared.goals.Goal.TheVariants.{Root, Suffix, Pair, Cover}
 use Rattle.goal_rows.specs.Elections.{Election}
-use Rattle.goal_rows.specs.Goals.{Holds, IsComplete, IsDecidedByPairs, IsElection, gainer_points, loser_points, pair_weight, root_goals}
+use Rattle.goal_rows.specs.Goals.{Holds, IsComplete, IsDecidedByPairs, gainer_points, loser_points, pair_weight, root_goals}
 use Rattle.goal_rows.specs.Margins.{Turns}
 use Rattle.goal_rows.specs.Outcomes.{Admits, IsReported}
 use Rattle.goal_rows.proofs.OutcomesReported.{one_reported}
-use Rattle.goal_rows.proofs.Roots.{pair_among, pairs_are, seat_pair_among, seat_pairs_are, with_winner}
+use Rattle.goal_rows.proofs.Roots.{pair_among, pairs_are, pairs_only, seat_pair_among, seat_pairs_are, seat_pairs_only, with_winner}
 use Rattle.goal_rows.proofs.SeatMoves.{another_where_gained, reported_allocation}
 use Rattle.goal_rows.proofs.ScoreTurning.{borda_turns_exactly, turns_exactly}
 use Rattle.goal_rows.proofs.PairSettlings.{IsRival, other_of_rival, rival_of_other}
@@ -48,12 +48,19 @@ pair_row e g l ballots =
     )
 
 -- the election of this contest, with its own root goals
-abbrev of_contest : Rule → Poll → Outcome → Election
+abbrev pub of_contest : Rule → Poll → Outcome → Election
 of_contest rule p reported = record { rule = rule; poll = p; reported = reported; roots = root_goals rule p.c reported }
 
 -- some complete goal holds after the changes
-abbrev Met : Election → List (ℕ × List ℕ) → Type 0
+abbrev pub Met : Election → List (ℕ × List ℕ) → Type 0
 Met e changes = (goal : Goal) × IsComplete e goal × Holds e goal (after e.poll changes).ballots
+
+-- the goals of a rule by pairs are pairs
+no_suffix : {A : Type 0} (c x y : ℕ) → Contains (with_winner c x) (Suffix (y ∷ [])) → A
+no_suffix c x y there = let only = pairs_only c x (Suffix (y ∷ [])) there in let h = only.1 in cc
+
+no_cover : {A : Type 0} (c x y : ℕ) → Contains (with_winner c x) (Cover y) → A
+no_cover c x y there = let only = pairs_only c x (Cover y) there in let h = only.1 in cc
 
 -- ---- plurality and Borda: somebody's score reaches the winner's
 
@@ -67,6 +74,9 @@ met_score : (e : Election) (points : List ℕ → ℕ → ℕ) (x : ℕ) (change
     → ((g l : ℕ) (ballots : List (List ℕ)) → Holds e (Pair g l) ballots ↔ (score_of points ballots l ≤ score_of points ballots g))
     → Met e changes → (j : ℕ) × IsLevel points (after e.poll changes) x j
 met_score e points x changes roots row (Root, complete, holds) = absurd complete
+met_score e points x changes roots row (Suffix suffix, complete, holds) =
+    no_suffix e.poll.c x complete.1.0 (subst (λ goals. Contains goals (Suffix (complete.1.0 ∷ []))) roots complete.1.2)
+met_score e points x changes roots row (Cover y, complete, holds) = no_cover e.poll.c x y (subst (λ goals. Contains goals (Cover y)) roots complete)
 met_score e points x changes roots row (Pair g l, complete, holds) =
     let is = pairs_are e.poll.c x g l (subst (λ goals. Contains goals (Pair g l)) roots complete) in
     let level = (row g l (after e.poll changes).ballots).0 holds in
@@ -123,6 +133,8 @@ rival_met p x changes (j, is) =
 
 met_rival : (p : Poll) (x : ℕ) (changes : List (ℕ × List ℕ)) → Met (of_contest Condorcet p (Winner x)) changes → (j : ℕ) × IsRival p.c (pref_of (after p changes).ballots) x j
 met_rival p x changes (Root, complete, holds) = absurd complete
+met_rival p x changes (Suffix suffix, complete, holds) = no_suffix p.c x complete.1.0 complete.1.2
+met_rival p x changes (Cover y, complete, holds) = no_cover p.c x y complete
 met_rival p x changes (Pair g l, complete, holds) =
     let is = pairs_are p.c x g l complete in
     let level = (pair_row (of_contest Condorcet p (Winner x)) g l (after p changes).ballots).0 holds in
@@ -181,6 +193,11 @@ gain_met p s shares changes (g, l, is) =
 
 met_gain : (p : Poll) (s : ℕ) (shares : List ℕ) (changes : List (ℕ × List ℕ)) → Met (of_contest (Dhondt s) p (Seats shares)) changes → (g l : ℕ) × IsSeatGain (votes_of (after p changes)) shares g l
 met_gain p s shares changes (Root, complete, holds) = absurd complete
+met_gain p s shares changes (Suffix suffix, complete, holds) =
+    let only = seat_pairs_only p.c shares (Suffix (complete.1.0 ∷ [])) complete.1.2 in
+    let h = only.2 in
+    cc
+met_gain p s shares changes (Cover x, complete, holds) = let only = seat_pairs_only p.c shares (Cover x) complete in let h = only.2 in cc
 met_gain p s shares changes (Pair g l, complete, holds) =
     let is = seat_pairs_are p.c g l shares complete in
     let long = votes_long (after p changes) in (
@@ -219,7 +236,7 @@ seat_turning p s shares changes poll is =
 
 -- ---- all of them
 
-turning_by : (rule : Rule) (p : Poll) (reported : Outcome) (changes : List (ℕ × List ℕ)) → IsDecidedByPairs rule reported → IsPoll p → IsReported rule p reported
+pub turning_by : (rule : Rule) (p : Poll) (reported : Outcome) (changes : List (ℕ × List ℕ)) → IsDecidedByPairs rule reported → IsPoll p → IsReported rule p reported
     → Turns rule p changes ↔ Met (of_contest rule p reported) changes
 turning_by Plurality p (Winner x) changes paired poll is = plurality_turning p x changes is
 turning_by Plurality p NoWinner changes paired poll is = absurd is
@@ -240,7 +257,3 @@ pub pair_turning : (e : Election) (changes : List (ℕ × List ℕ)) → IsPoll 
 pair_turning e changes poll is paired roots =
     let with : List Goal → Election = λ goals. record { rule = e.rule; poll = e.poll; reported = e.reported; roots = goals } in
     subst (λ goals. Turns e.rule e.poll changes ↔ Met (with goals) changes) (sym roots) (turning_by e.rule e.poll e.reported changes paired poll is)
-
-pub election_turning : (e : Election) (changes : List (ℕ × List ℕ)) → IsElection e → IsDecidedByPairs e.rule e.reported
-    → e.roots ≡ root_goals e.rule e.poll.c e.reported → Turns e.rule e.poll changes ↔ Met e changes
-election_turning e changes is paired roots = pair_turning e changes is.poll is.reported paired roots

@@ -13,6 +13,10 @@ pub record Election : Type 0 where
   pub reported : Outcome
   pub roots : List Goal
 
+-- the election of a contest under a rule, with a reported outcome and goals below the root
+abbrev pub contest : Rule → Poll → Outcome → List Goal → Election
+contest rule poll reported roots = record { rule = rule; poll = poll; reported = reported; roots = roots }
+
 -- a goal, with limits on the replacements
 pub record Node : Type 0 where
   pub goal : Goal

@@ -1,22 +1,23 @@
 -- Goals and their rows, after Magrino, Rivest, Shen and Wagner (2011) and Blom, Stuckey, Teague and Tidhar (2016). A
 -- row gives each ballot a whole weight, and holds on a list of ballots where the sum of the weights is at least 0. The
 -- outcome turns exactly where all rows of some complete goal hold after the replacements.
-use Rattle.std.specs.Prelude.{◌≡◌, ◌≢◌, ℕ, ◌+◌, ◌<◌, ◌≤◌, ◌==◌, ◌&&◌, not, nat_lt, List, [], ◌∷◌, Bool, Contains, All, AllPairs, Option, Some, None, if◌then◌else◌, filter, length, map, slice_index, slice_index_or, ℤ, pos, ◌-ℤ◌, ◌≤ℤ◌}
+use Rattle.std.specs.Prelude.{◌≡◌, ◌≢◌, ℕ, ◌+◌, ◌<◌, ◌≤◌, ◌==◌, ◌&&◌, not, nat_lt, List, [], ◌∷◌, Bool, Contains, All, AllPairs, Option, Some, None, if◌then◌else◌, length, map, slice_index, slice_index_or, ℤ, pos, ◌-ℤ◌, ◌≤ℤ◌}
 use Rattle.std.specs.List.{flat_map, range_with_len}
 use Rattle.mov_base.specs.Sums.{sum_z}
-use Rattle.ballot_form.specs.Ballots.{IsPoll}
+use Rattle.ballot_form.specs.Ballots.{IsPoll, IsValidBallot}
 use Rattle.ballot_form.specs.Rules.{IsRule}
 use Rattle.ballot_form.specs.Scores.{borda_points, is_first, plurality_points}
 use Rattle.ballot_form.specs.declared.outcome.Outcome.{Outcome}
 use Rattle.ballot_form.specs.declared.outcome.Outcome.TheVariants.{Winner, NoWinner, Seats}
 use Rattle.ballot_form.specs.declared.rule.Rule.{Rule}
 use Rattle.ballot_form.specs.declared.rule.Rule.TheVariants.{Plurality, Borda, Condorcet, Dhondt, Irv}
-use Rattle.condorcet_count.specs.Preferences.{prefers}
+use Rattle.irv_count.specs.Orders.{IsLast, IsOrder, member}
 use Rattle.row_program.specs.declared.limits.TheConstants.{MOST_KIDS}
 use Rattle.goal_rows.specs.Elections.{Election}
 use Rattle.goal_rows.specs.Outcomes.{IsReported}
+use Rattle.goal_rows.specs.Suffixes.{cover_rows, others, prefer_points, suffix_rows, those}
 use Rattle.goal_rows.specs.declared.goals.Goal.{Goal}
-use Rattle.goal_rows.specs.declared.goals.Goal.TheVariants.{Root, Pair}
+use Rattle.goal_rows.specs.declared.goals.Goal.TheVariants.{Root, Suffix, Pair, Cover}
 
 -- ---- rows
 
@@ -30,7 +31,7 @@ abbrev pub gainer_points : Election → ℕ → ℕ → List ℕ → ℕ
 gainer_points e g l ballot = elim e.rule [
   | Plurality ↦ plurality_points ballot g
   | Borda ↦ borda_points e.poll.c ballot g
-  | Condorcet ↦ if prefers ballot g l then 1 else 0
+  | Condorcet ↦ prefer_points g l ballot
   | Dhondt seats ↦ if is_first ballot g then seats_in e.reported l else 0
   | Irv ↦ 0
 ]
@@ -40,7 +41,7 @@ abbrev pub loser_points : Election → ℕ → ℕ → List ℕ → ℕ
 loser_points e g l ballot = elim e.rule [
   | Plurality ↦ plurality_points ballot l
   | Borda ↦ borda_points e.poll.c ballot l
-  | Condorcet ↦ if prefers ballot l g then 1 else 0
+  | Condorcet ↦ prefer_points l g ballot
   | Dhondt seats ↦ if is_first ballot l then seats_in e.reported g + 1 else 0
   | Irv ↦ 0
 ]
@@ -52,7 +53,9 @@ pair_weight e g l ballot = pos (gainer_points e g l ballot) -ℤ pos (loser_poin
 -- the rows of a goal
 abbrev pub rows_of : Election → Goal → List (List ℕ → ℤ)
 rows_of e Root = []
+rows_of e (Suffix suffix) = suffix_rows suffix
 rows_of e (Pair g l) = pair_weight e g l ∷ []
+rows_of e (Cover x) = cover_rows e.poll.c x
 
 -- all rows of the goal hold on the ballots
 abbrev pub Holds : Election → Goal → List (List ℕ) → Type 0
@@ -60,23 +63,22 @@ Holds e goal ballots = All (λ weight. pos 0 ≤ℤ sum_z weight ballots) (rows_
 
 -- ---- the goals below the root
 
--- the candidates below c that pass, ascending
-abbrev pub those : ℕ → (ℕ → Bool) → List ℕ
-those c test = filter test (range_with_len 0 c)
-
 -- l is another candidate than g, and has a seat
 abbrev pub is_seated : List ℕ → ℕ → ℕ → Bool
 is_seated shares g l = not (l == g) && nat_lt 0 (slice_index shares l)
 
 -- the goals into which the root is split, of c candidates. Where a winner is reported by scores or by pairs, they are
--- the pairs of each other candidate, ascending, with the winner; under D'Hondt the pairs of each candidate with each
--- other one that has a seat
+-- the pairs of each other candidate, ascending, with the winner; where Condorcet's rule reports none, the covers of all
+-- candidates; under D'Hondt the pairs of each candidate with each other one that has a seat; and under instant runoff
+-- the suffixes of each other candidate alone than the winner
 abbrev pub root_goals : Rule → ℕ → Outcome → List Goal
-root_goals Plurality c (Winner x) = map (λ j. Pair j x) (those c (λ j. not (j == x)))
-root_goals Borda c (Winner x) = map (λ j. Pair j x) (those c (λ j. not (j == x)))
-root_goals Condorcet c (Winner x) = map (λ j. Pair j x) (those c (λ j. not (j == x)))
+root_goals Plurality c (Winner x) = map (λ j. Pair j x) (others c x)
+root_goals Borda c (Winner x) = map (λ j. Pair j x) (others c x)
+root_goals Condorcet c (Winner x) = map (λ j. Pair j x) (others c x)
+root_goals Condorcet c NoWinner = map Cover (range_with_len 0 c)
 root_goals (Dhondt seats) c (Seats shares) =
     flat_map (λ g. map (λ l. Pair g l) (those c (is_seated shares g))) (range_with_len 0 c)
+root_goals Irv c (Winner x) = map (λ y. Suffix (y ∷ [])) (others c x)
 root_goals rule c reported = []
 
 -- the rule is decided by pairs of candidates: all but instant runoff, and Condorcet's where there is no winner
@@ -90,10 +92,13 @@ abbrev pub HasPairs : Rule → Type 0
 HasPairs Irv = ⊥
 HasPairs rule = Unit {0}
 
--- a goal that the root is split into for some reported outcome of the rule
+-- a goal that the root is split into for some reported outcome of the rule; with so few candidates that no such outcome
+-- is reported, too
 abbrev pub IsRootOf : Election → Goal → Type 0
 IsRootOf e Root = ⊥
+IsRootOf e (Suffix suffix) = (e.rule ≡ Irv) × ((y : ℕ) × (y < e.poll.c) × (suffix ≡ y ∷ []))
 IsRootOf e (Pair g l) = HasPairs e.rule × (g < e.poll.c) × (l < e.poll.c) × (g ≢ l)
+IsRootOf e (Cover x) = (e.rule ≡ Condorcet) × (x < e.poll.c)
 
 -- goals that an election may have below the root: few, each once, and each such a goal
 pub record AreRoots (e : Election) : Type 0 where
@@ -110,16 +115,30 @@ pub record IsElection (e : Election) : Type 0 where
 
 -- ---- covers
 
+-- the suffixes with one candidate more, in front: each of those who aren't in it, ascending
+abbrev pub longer_suffixes : ℕ → List ℕ → List Goal
+longer_suffixes c suffix = map (λ z. Suffix (z ∷ suffix)) (those c (λ z. not (member z suffix)))
+
 -- the goals that a goal is split into, where it has a cover: one of them holds where it holds on the way to a complete
 -- goal
 abbrev pub cover_of : Election → Goal → Option (List Goal)
 cover_of e Root = Some e.roots
+cover_of e (Suffix suffix) =
+    if nat_lt (length suffix) e.poll.c then Some (longer_suffixes e.poll.c suffix) else None
 cover_of e (Pair g l) = None
+cover_of e (Cover x) = None
 
--- the outcome turns where such a goal holds: it is one of the root's, and has no cover of its own
+-- the last candidate of the suffix alone is one of the suffixes into which the root is split
+abbrev pub EndsInRoot : Election → List ℕ → Type 0
+EndsInRoot e suffix = (y : ℕ) × IsLast suffix y × Contains e.roots (Suffix (y ∷ []))
+
+-- the outcome turns where such a goal holds: a pair or a cover is one of the root's; a suffix has each candidate once,
+-- and ends in one of the root's
 abbrev pub IsComplete : Election → Goal → Type 0
 IsComplete e Root = ⊥
+IsComplete e (Suffix suffix) = IsOrder e.poll.c suffix × EndsInRoot e suffix
 IsComplete e (Pair g l) = Contains e.roots (Pair g l)
+IsComplete e (Cover x) = Contains e.roots (Cover x)
 
 -- the goal at this place of a goal's cover, from 0
 abbrev pub IsKid : Election → Goal → ℕ → Goal → Type 0
@@ -139,3 +158,10 @@ pub record IsOnlyWay (e : Election) (goal : Goal) (way : List ℕ) (end : Goal) 
 -- a goal that is the root or reached from it through covers
 abbrev pub IsReached : Election → Goal → Type 0
 IsReached e goal = (way : List ℕ) × LeadsTo e Root way goal
+
+-- the root, one of its goals, or a suffix of distinct candidates of the contest that ends in one of them
+abbrev pub IsGoalOf : Election → Goal → Type 0
+IsGoalOf e Root = Unit {0}
+IsGoalOf e (Suffix suffix) = IsValidBallot e.poll.c suffix × EndsInRoot e suffix
+IsGoalOf e (Pair g l) = Contains e.roots (Pair g l)
+IsGoalOf e (Cover x) = Contains e.roots (Cover x)

@@ -1,8 +1,10 @@
 pub mod Outcomes
 pub mod Margins
 pub mod Elections
+pub mod Suffixes
 pub mod Goals
 pub mod Nodes
+pub mod KeyCounts
 pub mod Races
 pub mod Pairs
 pub mod SeatGains

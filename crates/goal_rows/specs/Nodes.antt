@@ -1,16 +1,18 @@
 -- A node is a goal with a list of limits on the replacements. Each row of the goal and each limit has a value before
 -- any replacement, and each replacement changes it by so much.
-use Rattle.std.specs.Prelude.{ℕ, ◌+◌, ◌≤◌, ◌==◌, List, [], ◌∷◌, ◌++◌, All, if◌then◌else◌, length, map, ℤ, pos, ◌-ℤ◌, ◌≤ℤ◌}
+use Rattle.std.specs.Prelude.{ℕ, ◌+◌, ◌^◌, ◌<◌, ◌≤◌, ◌==◌, List, [], ◌∷◌, ◌++◌, All, if◌then◌else◌, length, map, ℤ, pos, ◌-ℤ◌, ◌≤ℤ◌}
 use Rattle.mov_base.specs.Sums.{add_up, sum_z}
 use Rattle.ballot_form.specs.Alterations.{after}
 use Rattle.ballot_form.specs.declared.limits.TheConstants.{MOST_BALLOTS}
 use Rattle.row_program.specs.declared.Feature.{Feature}
+use Rattle.row_program.specs.declared.Feature.TheVariants.{From, Arc}
 use Rattle.row_program.specs.declared.Limit.{Limit}
 use Rattle.row_program.specs.declared.limits.TheConstants.{MOST_LIMITS}
 use Rattle.goal_rows.specs.Elections.{Election, Node}
 use Rattle.goal_rows.specs.Goals.{Holds, rows_of}
+use Rattle.goal_rows.specs.Suffixes.{counted_under_cover, counted_under_suffix}
 use Rattle.goal_rows.specs.declared.goals.Goal.{Goal}
-use Rattle.goal_rows.specs.declared.goals.Goal.TheVariants.{Root, Pair}
+use Rattle.goal_rows.specs.declared.goals.Goal.TheVariants.{Root, Suffix, Pair, Cover}
 use Rattle.goal_rows.specs.declared.parts.Ground.{Ground}
 
 -- a ground's goal with these limits
@@ -25,10 +27,15 @@ without_limits goal = record { goal = goal; limits = [] }
 abbrev pub with_limit : Node → Limit → Node
 with_limit node limit = record { goal = node.goal; limits = node.limits ++ limit ∷ [] }
 
--- the feature belongs to the goal. The root and the pairs have none
+-- the feature belongs to the goal. A suffix has the keys of ballots under it, and the arcs between its places and from
+-- the start, 0; a cover has the keys; the root and the pairs have none
 abbrev pub IsFeatureOf : Election → Goal → Feature → Type 0
 IsFeatureOf e Root feature = ⊥
+IsFeatureOf e (Suffix suffix) (From key) = key < 2 ^ length suffix
+IsFeatureOf e (Suffix suffix) (Arc u p) = (u < p) × (p ≤ length suffix)
 IsFeatureOf e (Pair g l) feature = ⊥
+IsFeatureOf e (Cover x) (From key) = key < 2 ^ e.poll.c
+IsFeatureOf e (Cover x) (Arc u p) = ⊥
 
 -- limits on features of the goal: few, and of small values
 pub record AreLimits (e : Election) (node : Node) : Type 0 where
@@ -39,7 +46,9 @@ pub record AreLimits (e : Election) (node : Node) : Type 0 where
 -- how much the replacement of an old by a new ballot counts for a feature: nothing where the goal has no feature
 abbrev pub counted_for : Election → Goal → Feature → List ℕ × List ℕ → ℕ
 counted_for e Root feature swap = 0
+counted_for e (Suffix suffix) feature swap = counted_under_suffix suffix feature swap
 counted_for e (Pair g l) feature swap = 0
+counted_for e (Cover x) feature swap = counted_under_cover x feature swap
 
 -- the old and the new ballot of each replacement, in order, where the first ballot has the number i
 abbrev pub swaps_from : ℕ → List (List ℕ) → List (ℕ × List ℕ) → List (List ℕ × List ℕ)

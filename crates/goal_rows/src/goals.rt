@@ -1,7 +1,7 @@
 // Goals.
 ghost use Rattle.std.specs.Prelude.{◌≡◌, IfOk};
 
-use ballot_form::Cand;
+use ballot_form::{Cand, Ranking};
 use mov_base::{Copies, List, Memory};
 use std::alloc::Global;
 
@@ -13,8 +13,13 @@ pub type GoalList = List<Goal>;
 pub enum Goal {
     /// Any outcome other than the reported one is admitted.
     Root,
+    /// These candidates, from the one who goes out first to the one who wins, are the last to stand, and go out in this
+    /// order.
+    Suffix(Ranking),
     /// The first candidate's count is brought up to the second one's.
     Pair(Cand, Cand),
+    /// No other candidate is preferred to this one by more ballots than prefer this one.
+    Cover(Cand),
 }
 
 impl Goal {
@@ -24,7 +29,9 @@ impl Goal {
     {
         match self {
             Goal::Root => Ok(Goal::Root),
+            Goal::Suffix(suffix) => Ok(Goal::Suffix(suffix.copy()?)),
             Goal::Pair(gainer, loser) => Ok(Goal::Pair(*gainer, *loser)),
+            Goal::Cover(x) => Ok(Goal::Cover(*x)),
         }
     }
 }

@@ -1,23 +1,27 @@
 // What a goal is before any replacement.
-ghost use Rattle.std.specs.Prelude.{◌≡◌, ◌≤◌, ◌+◌, ◌-◌, ◌*◌, pos, ◌-ℤ◌, [], ◌∷◌, IfOk, nat_eq};
+ghost use Rattle.std.specs.Prelude.{◌≡◌, ◌<◌, ◌≤◌, ◌+◌, ◌-◌, ◌*◌, pos, ◌-ℤ◌, [], ◌∷◌, IfOk, nat_eq};
 ghost use Rattle.mov_base.specs.Sums.{add_up};
 ghost use Rattle.signature_class.specs.Classes.{add_all};
-ghost use Rattle.goal_rows.specs.Goals.{gainer_points, loser_points, pair_weight};
+ghost use Rattle.ballot_form.specs.Ballots.{IsValidBallot};
+ghost use Rattle.ballot_form.specs.declared.rule.Rule.TheVariants.{Condorcet, Irv};
+ghost use Rattle.goal_rows.specs.Goals.{IsReached, gainer_points, loser_points, pair_weight};
 ghost use Rattle.goal_rows.specs.Races.{IsGroundOf, IsRace, election_of, key_of, keyed};
-ghost use Rattle.goal_rows.specs.declared.goals.Goal.TheVariants.{Pair};
+ghost use Rattle.goal_rows.specs.declared.goals.Goal.TheVariants.{Cover, Pair, Suffix};
 
 use crate::goals::Goal;
 use crate::parts::{Ground, Race, SumList};
 use crate::points::{for_gainer, for_loser};
-use ballot_form::{Cand, MOST_BALLOTS};
+use crate::sums::{cover_values, suffix_values};
+use ballot_form::{Cand, MOST_BALLOTS, Ranking};
 use mov_base::Memory;
-use signature_class::Classes;
+use signature_class::{Classes, cover_classes, cover_key, suffix_classes, suffix_key};
 use std::alloc::Global;
 
-/// The goal's classes of ballots, the value of each of its rows, the number of ballots, and the weight of the gainer
-/// alone.
+/// The goal's classes of ballots, the value of each of its rows, the number of ballots, and the weight of the ballot
+/// that ranks the gainer of a pair, or the candidate of a cover, alone. Each kind of ballot is looked at once.
 pub fn ground(alloc: Global, race: &Race<'_>, goal: &Goal) -> Result<Ground, Memory>
     requires race { IsRace race.now }
+    requires reached { IsReached (election_of race.now) goal.now }
     ensures goal { IfOk result (λ start. start.goal ≡ goal.now) }
     ensures values { IfOk result (IsGroundOf (election_of race.now)) }
 {
@@ -29,8 +33,52 @@ pub fn ground(alloc: Global, race: &Race<'_>, goal: &Goal) -> Result<Ground, Mem
             ballots: race.roll.len(),
             lone: 0,
         }),
+        Goal::Suffix(suffix) => under_suffix(alloc, race, suffix),
         Goal::Pair(gainer, loser) => under_pair(alloc, race, *gainer, *loser),
+        Goal::Cover(x) => under_cover(alloc, race, *x),
     }
+}
+
+/// What a suffix is before any replacement.
+fn under_suffix(alloc: Global, race: &Race<'_>, suffix: &Ranking) -> Result<Ground, Memory>
+    requires race { IsRace race.now }
+    requires rule { race.now.rule ≡ Irv }
+    requires valid { IsValidBallot race.now.roll.now.c suffix.now }
+    ensures goal { IfOk result (λ start. start.goal ≡ Suffix suffix.now) }
+    ensures values { IfOk result (IsGroundOf (election_of race.now)) }
+{
+    let candidates = suffix.as_slice();
+    let ballots = race.roll.len();
+    let classes = suffix_classes(alloc, &race.kinds, candidates)?;
+    let sums = suffix_values(alloc, &classes, candidates.len() as u8)?;
+    let goal = Goal::Suffix(suffix.copy()?);
+    Ok(Ground {
+        goal,
+        classes,
+        sums,
+        ballots,
+        lone: 0,
+    })
+}
+
+/// What a cover is before any replacement.
+fn under_cover(alloc: Global, race: &Race<'_>, x: Cand) -> Result<Ground, Memory>
+    requires race { IsRace race.now }
+    requires rule { race.now.rule ≡ Condorcet }
+    requires below { x < race.now.roll.now.c }
+    ensures goal { IfOk result (λ start. start.goal ≡ Cover x) }
+    ensures values { IfOk result (IsGroundOf (election_of race.now)) }
+{
+    let ballots = race.roll.len();
+    let classes = cover_classes(alloc, &race.kinds, x)?;
+    let sums = cover_values(alloc, &classes, race.roll.candidates(), x)?;
+    Ok(Ground {
+        goal: Goal::Cover(x),
+        classes,
+        sums,
+        ballots,
+        lone: 1,
+    })
 }
 
 /// What a pair is before any replacement.
@@ -126,14 +174,18 @@ fn tally_kinds(alloc: Global, race: &Race<'_>, gainer: Cand, loser: Cand) -> Res
 
 /// The key of a ballot under a goal: its class in the goal's ground.
 pub fn key(race: &Race<'_>, goal: &Goal, row: &[Cand]) -> u64
+    requires race { IsRace race.now }
+    requires reached { IsReached (election_of race.now) goal.now }
     ensures { result ≡ key_of (election_of race.now) goal.now row.now }
 {
     match goal {
         Goal::Root => 0,
+        Goal::Suffix(suffix) => suffix_key(row, suffix.as_slice()),
         Goal::Pair(gainer, loser) => pair_key(
             for_gainer(race, *gainer, *loser, row),
             for_loser(race, *gainer, *loser, row),
         ),
+        Goal::Cover(x) => cover_key(row, *x),
     }
 }
 

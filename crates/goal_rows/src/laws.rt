@@ -1,5 +1,5 @@
 // What follows from the definitions.
-ghost use Rattle.std.specs.Prelude.{◌≡◌, ◌≢◌, ◌↔◌, ◌⊎◌, ◌+◌, ◌≤◌, ℕ, List, Contains, length, map};
+ghost use Rattle.std.specs.Prelude.{◌≡◌, ◌≢◌, ◌↔◌, ◌+◌, ◌≤◌, ℕ, List, drop, length, map};
 ghost use Rattle.mov_base.specs.Sums.{add_up};
 ghost use Rattle.ballot_form.specs.Alterations.{IsAlteration, after};
 ghost use Rattle.ballot_form.specs.Ballots.{IsPoll, IsValidBallot, Poll};
@@ -7,7 +7,7 @@ ghost use Rattle.ballot_form.specs.Scores.{plurality_points};
 ghost use Rattle.ballot_form.specs.declared.outcome.Outcome.{Outcome as AnOutcome};
 ghost use Rattle.ballot_form.specs.declared.rule.Rule.{Rule as ARule};
 ghost use Rattle.goal_rows.specs.Elections.{Election};
-ghost use Rattle.goal_rows.specs.Goals.{AreRoots, Holds, IsComplete, IsDecidedByPairs, IsElection, IsOnlyWay, IsReached, LeadsTo, root_goals};
+ghost use Rattle.goal_rows.specs.Goals.{AreRoots, Holds, IsComplete, IsElection, IsGoalOf, IsOnlyWay, IsReached, LeadsTo, root_goals};
 ghost use Rattle.goal_rows.specs.Margins.{IsMargin, Turns};
 ghost use Rattle.ballot_form.specs.declared.outcome.Outcome.TheVariants.{Winner};
 ghost use Rattle.ballot_form.specs.declared.rule.Rule.TheVariants.{Plurality};
@@ -15,7 +15,8 @@ ghost use Rattle.goal_rows.specs.Outcomes.{IsReported};
 ghost use Rattle.goal_rows.specs.Pairs.{IsLevel, Reaches, deficit_of, gain_of};
 ghost use Rattle.goal_rows.specs.SeatGains.{IsSeatGain};
 ghost use Rattle.goal_rows.specs.declared.goals.Goal.{Goal as AGoal};
-ghost use Rattle.goal_rows.specs.declared.goals.Goal.TheVariants.{Root};
+ghost use Rattle.goal_rows.specs.declared.goals.Goal.TheVariants.{Root, Suffix};
+ghost use Rattle.irv_count.specs.Orders.{IsLegalOrder, IsOrder};
 ghost use Rattle.dhondt_seats.specs.Seats.{IsAllocation, seats_in_all};
 
 /// There is one reported outcome at most.
@@ -53,13 +54,22 @@ pub fn other_seats_are_admitted_where_a_party_gains()
         ((other : List ℕ) × (other ≢ shares) × IsAllocation votes s other) ↔ ((g l : ℕ) × IsSeatGain votes shares g l) }
 {}
 
-/// Under the rules that are decided by pairs the outcome turns exactly where the rows of some complete goal hold after
-/// the replacements.
-pub fn the_outcome_turns_where_a_pair_holds()
-    ensures { (e : Election) (changes : List (ℕ × List ℕ)) → IsElection e → IsDecidedByPairs e.rule e.reported →
-        e.roots ≡ root_goals e.rule e.poll.c e.reported →
+/// The outcome turns exactly where the rows of some complete goal hold after the replacements: for every rule and every
+/// alteration.
+pub fn the_outcome_turns_where_a_goal_holds()
+    ensures { (e : Election) (changes : List (ℕ × List ℕ)) → IsElection e →
+        e.roots ≡ root_goals e.rule e.poll.c e.reported → IsAlteration e.poll changes →
         Turns e.rule e.poll changes
         ↔ ((goal : AGoal) × IsComplete e goal × Holds e goal (after e.poll changes).ballots) }
+{}
+
+/// An order of all candidates is legal exactly where the rows of its suffix hold, and then those of each shorter suffix
+/// of it hold too.
+pub fn a_legal_order_keeps_the_rows_of_its_suffixes()
+    ensures whole { (e : Election) (p : Poll) (order : List ℕ) → IsPoll p → IsOrder p.c order →
+        IsLegalOrder p order ↔ Holds e (Suffix order) p.ballots }
+    ensures shorter { (e : Election) (p : Poll) (order : List ℕ) (i : ℕ) → IsPoll p → IsLegalOrder p order →
+        Holds e (Suffix (drop i order)) p.ballots }
 {}
 
 /// The root goals of a contest with its reported outcome are goals that an election may have below the root.
@@ -81,7 +91,8 @@ pub fn goals_on_the_way_hold()
         LeadsTo e Root before between → LeadsTo e between behind goal → Holds e goal ballots → Holds e between ballots }
 {}
 
-/// The goals that are reached are the root and those that it is split into.
-pub fn a_reached_goal_is_the_root_or_a_root_goal()
-    ensures { (e : Election) (goal : AGoal) → IsReached e goal ↔ ((goal ≡ Root) ⊎ Contains e.roots goal) }
+/// The goals that are reached are the root, those that it is split into, and under instant runoff the suffixes of
+/// distinct candidates that end in one of them.
+pub fn a_reached_goal_is_the_root_or_below_a_root_goal()
+    ensures { (e : Election) (goal : AGoal) → AreRoots e → IsReached e goal ↔ IsGoalOf e goal }
 {}

@@ -29,12 +29,13 @@ pub struct Race<'a> {
 pub struct Ground {
     /// The goal.
     pub goal: Goal,
-    /// The ballots by their key under the goal: for a pair the weight that its row gives the ballot, and 1,024 more.
+    /// The ballots by their key under the goal: for a suffix the set of the places that its signature keeps; for a pair
+    /// the weight that its row gives the ballot, and 1,024 more; for a cover the set of the candidates up to its own.
     pub classes: Classes,
     /// The value of each of the goal's rows.
     pub sums: SumList,
     /// How many ballots there are.
     pub ballots: u32,
-    /// The weight of the ballot that ranks a pair's gainer alone; 0 for the root.
+    /// The weight of the ballot that ranks a pair's gainer alone; 1 for a cover; 0 for the root and for a suffix.
     pub lone: i64,
 }

@@ -1,9 +1,9 @@
 // What a ballot counts for the gainer of a pair, and for the loser.
 ghost use Rattle.std.specs.Prelude.{◌≡◌, ◌≤◌, if◌then◌else◌, slice_index};
 ghost use Rattle.ballot_form.specs.Scores.{borda_points, is_first, place_of};
-ghost use Rattle.condorcet_count.specs.Preferences.{prefers};
 ghost use Rattle.goal_rows.specs.Goals.{gainer_points, loser_points, seats_in};
 ghost use Rattle.goal_rows.specs.Races.{election_of};
+ghost use Rattle.goal_rows.specs.Suffixes.{prefer_points};
 
 use crate::parts::Race;
 use ballot_form::{Cand, Outcome, Rule};
@@ -58,8 +58,9 @@ fn place_points(c: u8, row: &[Cand], x: Cand) -> u64
 }
 
 /// One where the ballot ranks the first candidate, and the other one later or not at all.
-fn preference(row: &[Cand], x: Cand, y: Cand) -> u64
-    ensures { result ≡ (if prefers row.now x y then 1 else 0) }
+pub(crate) fn preference(row: &[Cand], x: Cand, y: Cand) -> u64
+    ensures value { result ≡ prefer_points x y row.now }
+    ensures few { result ≤ 1 }
 {
     match (place(row, x), place(row, y)) {
         (Some(r), Some(q)) if r >= q => 0,

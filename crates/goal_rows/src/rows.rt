@@ -1,16 +1,56 @@
 // Whether the rows of a goal hold.
-ghost use Rattle.std.specs.Prelude.{◌≡◌, ◌↔◌, ◌≤◌, ◌*◌, length, IsTrue};
-ghost use Rattle.mov_base.specs.Sums.{add_up};
-ghost use Rattle.goal_rows.specs.Goals.{Holds, IsComplete, gainer_points, loser_points};
+ghost use Rattle.std.specs.Prelude.{◌≡◌, ◌↔◌, ◌<◌, ◌≤◌, ◌*◌, All, length, IsTrue, pos, ◌≤ℤ◌};
+ghost use Rattle.mov_base.specs.Sums.{add_up, sum_z};
+ghost use Rattle.condorcet_count.specs.Preferences.{pref_of};
+ghost use Rattle.irv_count.specs.Orders.{IsOrder};
+ghost use Rattle.goal_rows.specs.Goals.{Holds, IsComplete, gainer_points, loser_points, rows_of};
+ghost use Rattle.goal_rows.specs.Suffixes.{cover_rows, suffix_rows};
+ghost use Rattle.ballot_form.specs.Ballots.{AreDistinct};
 ghost use Rattle.goal_rows.specs.Races.{election_of};
 
 use crate::goals::Goal;
 use crate::parts::Race;
-use crate::points::{for_gainer, for_loser};
+use crate::points::{for_gainer, for_loser, preference};
 use ballot_form::{Cand, Roll};
+use irv_count::legal_order;
+
+// As many candidates as there are at most.
+const MOST_COUNTS: usize = 40;
 
 /// As many rows as any goal has: a goal of 40 places has one for each two.
 pub const MOST_ROWS: usize = 780;
+
+/// How many rows a goal has.
+pub fn row_count(race: &Race<'_>, goal: &Goal) -> usize
+    ensures { result ≡ length (rows_of (election_of race.now) goal.now) }
+{
+    match goal {
+        Goal::Root => 0,
+        Goal::Suffix(suffix) => pairs_among(suffix.as_slice()),
+        Goal::Pair(_, _) => 1,
+        Goal::Cover(x) => others_count(race.roll.candidates(), *x),
+    }
+}
+
+/// How many pairs there are of the suffix's candidates: its rows.
+fn pairs_among(suffix: &[Cand]) -> usize
+    requires { AreDistinct suffix.now }
+    ensures { result ≡ length (suffix_rows suffix.now) }
+{
+    let m = suffix.len();
+    if m == 0 { 0 } else { m * (m - 1) / 2 }
+}
+
+/// How many candidates below c there are other than x.
+fn others_count(c: u8, x: Cand) -> usize
+    ensures { result ≡ length (cover_rows c x) }
+{
+    if x < c {
+        usize::from(c) - 1
+    } else {
+        usize::from(c)
+    }
+}
 
 /// Whether all rows of the complete goal hold on the ballots. The scratch has room for the rows of every goal. It takes
 /// no memory.
@@ -25,7 +65,9 @@ pub fn rows_hold(race: &Race<'_>, after: &Roll, goal: &Goal, scratch: &mut [i64]
     let _ = scratch;
     match goal {
         Goal::Root => unreachable!(),
+        Goal::Suffix(suffix) => is_legal(after, suffix.as_slice()),
         Goal::Pair(gainer, loser) => is_level(race, after, *gainer, *loser),
+        Goal::Cover(x) => is_unbeaten(after, *x),
     }
 }
 
@@ -52,4 +94,52 @@ fn ballot_counts(race: &Race<'_>, roll: &Roll, gainer: Cand, loser: Cand) -> (u6
         lost += count * for_loser(race, gainer, loser, run.row);
     }
     (gained, lost)
+}
+
+/// Whether the rows of the suffix of all candidates hold: whether its order is legal.
+fn is_legal(roll: &Roll, order: &[Cand]) -> bool
+    requires { IsOrder roll.now.c order.now }
+    ensures { IsTrue result
+        ↔ All (λ weight. pos 0 ≤ℤ sum_z weight roll.now.ballots) (suffix_rows order.now) }
+{
+    let c = usize::from(roll.candidates());
+    let mut counts = [0; MOST_COUNTS];
+    legal_order(roll, order, &mut counts[..c])
+}
+
+/// Whether the rows of the candidate's cover hold: whether no other one is preferred to it by more ballots than prefer
+/// it.
+fn is_unbeaten(roll: &Roll, x: Cand) -> bool
+    ensures { IsTrue result
+        ↔ All (λ weight. pos 0 ≤ℤ sum_z weight roll.now.ballots) (cover_rows roll.now.c x) }
+{
+    for j in 0..roll.candidates() {
+        if j != x && is_beaten_by(roll, x, j) {
+            return false;
+        }
+    }
+    true
+}
+
+/// Whether more ballots prefer the other one to the candidate than the candidate to it.
+fn is_beaten_by(roll: &Roll, x: Cand, other: Cand) -> bool
+    ensures { IsTrue result ↔ (pref_of roll.now.ballots x other < pref_of roll.now.ballots other x) }
+{
+    let (over, under) = preferences(roll, x, other);
+    over < under
+}
+
+/// How many ballots prefer the first candidate to the second, and how many the second to the first.
+fn preferences(roll: &Roll, x: Cand, y: Cand) -> (u64, u64)
+    ensures first { result.0 ≡ pref_of roll.now.ballots x y }
+    ensures second { result.1 ≡ pref_of roll.now.ballots y x }
+{
+    let mut over = 0;
+    let mut under = 0;
+    for run in roll.runs() {
+        let count = u64::from(run.count);
+        over += count * preference(run.row, x, y);
+        under += count * preference(run.row, y, x);
+    }
+    (over, under)
 }

@@ -56,7 +56,7 @@ both_later (Some a) (Some b) = elim (cases_lt a b) [
 ]
 
 -- preferred to x is who stands up to x, and isn't x
-preferred_over : (x j : ℕ) (ballot : List ℕ) → prefers ballot j x ≡ (member j (up_to x ballot) && not (j == x))
+pub preferred_over : (x j : ℕ) (ballot : List ℕ) → prefers ballot j x ≡ (member j (up_to x ballot) && not (j == x))
 preferred_over x j [] = refl
 preferred_over x j (z ∷ ballot) = elim (cases_eq z x) [
   | inl at ↦ elim (cases_eq z j) [
@@ -72,7 +72,7 @@ preferred_over x j (z ∷ ballot) = elim (cases_eq z x) [
 ]
 
 -- x is preferred to those who don't stand up to it, where it is ranked
-preferred_to : (x j : ℕ) (ballot : List ℕ)
+pub preferred_to : (x j : ℕ) (ballot : List ℕ)
     → prefers ballot x j ≡ (member x (up_to x ballot) && not (member j (up_to x ballot)))
 preferred_to x j [] = refl
 preferred_to x j (z ∷ ballot) = elim (cases_eq z x) [

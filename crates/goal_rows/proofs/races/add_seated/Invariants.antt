@@ -1,5 +1,6 @@
 use Rattle.std.proofs.Common.{◌≡◌, ◌++◌, map}
-use Rattle.goal_rows.specs.Goals.{is_seated, those}
+use Rattle.goal_rows.specs.Goals.{is_seated}
+use Rattle.goal_rows.specs.Suffixes.{those}
 use Rattle.goal_rows.specs.declared.goals.Goal.TheVariants.{Pair}
 use Rattle.goal_rows.proofs.races.add_seated.Given as goal
 

@@ -1,6 +1,7 @@
 use Rattle.std.proofs.Common.{◌≡◌, map}
 use Rattle.std.specs.List.{flat_map, range_with_len}
-use Rattle.goal_rows.specs.Goals.{is_seated, those}
+use Rattle.goal_rows.specs.Goals.{is_seated}
+use Rattle.goal_rows.specs.Suffixes.{those}
 use Rattle.goal_rows.specs.declared.goals.Goal.TheVariants.{Pair}
 use Rattle.goal_rows.proofs.races.seated.Given as goal
 

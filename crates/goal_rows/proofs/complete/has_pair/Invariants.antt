@@ -1,7 +1,7 @@
 use Rattle.std.proofs.Common.{take}
 use Rattle.std.specs.Prelude.{Contains}
 use Rattle.goal_rows.specs.declared.goals.Goal.TheVariants.{Pair}
-use Rattle.goal_rows.proofs.races.has_pair.Given as goal
+use Rattle.goal_rows.proofs.complete.has_pair.Given as goal
 
 abbrev pub invariant-loop-goal : goal.invariant-loop-goal
 invariant-loop-goal l = Contains (take l.goal-index l.goals) (Pair l.gainer l.loser) → ⊥

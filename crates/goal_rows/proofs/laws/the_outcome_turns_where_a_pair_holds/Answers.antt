@@ -1,5 +1,0 @@
-use Rattle.goal_rows.proofs.PairTurning.{election_turning}
-use Rattle.goal_rows.proofs.laws.the_outcome_turns_where_a_pair_holds.Goals as goal
-
-pub returns : goal.returns
-returns c = election_turning
