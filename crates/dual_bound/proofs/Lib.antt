@@ -4,3 +4,5 @@ pub mod Sizes
 pub mod Sorting
 pub mod Gains
 pub mod Greedy
+pub mod Keyed
+pub mod Limits
