@@ -6,3 +6,5 @@ pub mod Gains
 pub mod Greedy
 pub mod Keyed
 pub mod Limits
+pub mod PathArcs
+pub mod SuffixWeights
