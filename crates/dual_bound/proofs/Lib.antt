@@ -8,3 +8,5 @@ pub mod Keyed
 pub mod Limits
 pub mod PathArcs
 pub mod SuffixWeights
+pub mod Covers
+pub mod Suffixes
