@@ -31,7 +31,7 @@ use Rattle.goal_rows.proofs.Lengths.{cover_rows_less}
 use Rattle.goal_rows.proofs.PairPoints.{ArePairPoints, pair_points}
 use Rattle.goal_rows.proofs.Ways.{reached_cover, reached_pair, reached_suffix}
 use Rattle.dual_bound.specs.CutTest.{AreMultipliers, Cuts, CutsKept, IsBound, base_of, change_by, weighed_of}
-use Rattle.dual_bound.specs.Largest.{CutsAt, IsGreatestCut, IsSmallPair}
+use Rattle.dual_bound.specs.Largest.{CutsAt, IsGreatestCut}
 use Rattle.dual_bound.specs.Weighing.{IsBestNew, base_by, cost_by, gain_by, is_from, limits_bring, of_limits, of_rows, over_weight, places_by, row_arcs, times_all}
 use Rattle.dual_bound.proofs.Covers.{cover_above, cover_reached, cover_worth}
 use Rattle.dual_bound.proofs.Keyed.{IsByKey, IsMost, keyed_test, rows_change, rows_start, sum_z-zip, worth}
@@ -365,49 +365,3 @@ root_bound e start limits ls few goal_is = record {
   cut = cut_at_none e (node_of start limits) ls;
   greatest = λ u le cut. omega (arith, root_at_none e start limits ls u few goal_is cut);
 }
-
--- ---- sizes of a pair
-
--- what is known of a pair's ground
-root_of : (e : Election) (start : Ground) (g l : ℕ) → IsGroundIn e start → start.goal ≡ Pair g l → IsRootOf e (Pair g l)
-root_of e start g l is goal_is = (reached_pair e g l is.election.roots (subst (λ goal. IsReached e goal) goal_is is.reached)).1
-
-values_of : (e : Election) (start : Ground) (goal : Goal) → IsGroundIn e start → start.goal ≡ goal → IsGroundOf e (with_goal start goal)
-values_of e start goal is goal_is = subst (λ other. IsGroundOf e (with_goal start other)) goal_is is.values
-
--- the weight of the gainer alone
-lone_is_top : (e : Election) (g l : ℕ) → ArePairPoints e g l → pair_weight e g l (g ∷ []) ≡ pos (gainer_points e g l (g ∷ []))
-lone_is_top e g l are = let none = are.none in omega (arith, ints, none)
-
-count_all : {A : Type 0} (xs : List A) → add_up (λ _. 1) xs ≡ length xs
-count_all [] = refl
-count_all (x ∷ xs) = omega (arith, count_all xs)
-
-pub small_pair : (e : Election) (start : Ground) (g l : ℕ) → IsGroundIn e start → start.goal ≡ Pair g l → IsSmallPair start
-small_pair e start g l is goal_is =
-    let root = root_of e start g l is goal_is in
-    let are = pair_points e g l is.election root in
-    let values = values_of e start (Pair g l) is goal_is in
-    let p = e.poll in
-    let base = ap (λ (xs : List ℤ). get_or xs 0 (pos 0)) values.sums in
-    let sum = sum_z-difference (gainer_points e g l) (loser_points e g l) p.ballots in
-    let top = are.top in
-    let a = add_up-le (gainer_points e g l) 1024 p.ballots (λ ballot. let h = are.high ballot in omega (arith, h, top)) in
-    let b = add_up-le (loser_points e g l) 1024 p.ballots are.low in
-    let alone : start.lone ≡ pos (gainer_points e g l (g ∷ [])) = values.lone ∙ lone_is_top e g l are in
-    let keys = keys_of e (Pair g l) in
-    let k = (keys_are_classes keys).counted (λ _. 1) in
-    let f = count_all keys in
-    let n : length keys ≡ length p.ballots = length-map p.ballots (key_of e (Pair g l)) in
-    let h = sum-times_one (classes_of nat_eq keys) in
-    let j : add_up (λ c. c.1) start.classes ≡ add_up (λ c. c.1) (classes_of nat_eq keys) = ap (add_up (λ c. c.1)) values.classes in
-    let few = is.election.poll.few in
-    record {
-      one_sum = ap length values.sums;
-      sum_low = omega (arith, ints, base, sum, b, few);
-      sum_high = omega (arith, ints, base, sum, a, few);
-      lone_low = omega (arith, ints, alone);
-      lone_high = omega (arith, ints, alone, top);
-      counted = omega (arith, k, f, n, h, j, values.ballots);
-      few = omega (arith, values.ballots, few);
-    }
