@@ -1,11 +1,9 @@
 -- What a ballot counts in the rows of a cover, by its key, and the most that a new one brings.
-use Rattle.std.proofs.Common.{◌≡◌, ◌≢◌, ℕ, zero, suc, ◌+◌, ◌*◌, ◌<◌, ◌≤◌, List, [], ◌∷◌, Bool, true, false, cond, length, map, ap, refl, sym, ◌∙◌, arith}
-use Rattle.std.specs.Prelude.{◌==◌, ◌&&◌, not, Contains, ℤ, pos, ◌+ℤ◌, ◌-ℤ◌, ◌*ℤ◌, ◌≤ℤ◌}
-use Rattle.std.specs.List.{zip}
+use Rattle.std.proofs.Common.{◌≡◌, ◌≢◌, ℕ, zero, suc, ◌<◌, ◌≤◌, List, [], ◌∷◌, Bool, true, false, length, map, ap, refl, sym, ◌∙◌, arith}
+use Rattle.std.specs.Prelude.{◌==◌, ◌&&◌, not, Contains, ℤ, pos, ◌-ℤ◌, ◌*ℤ◌, ◌≤ℤ◌}
 use Rattle.std.proofs.Math.IntN.{negsuc}
 use Rattle.std.proofs.lemmas.Int.{ints}
-use Rattle.mov_base.specs.Sums.{add_up, sum_z}
-use Rattle.mov_base.proofs.Signed.{distrib}
+use Rattle.mov_base.specs.Sums.{add_up}
 use Rattle.condorcet_count.specs.Preferences.{prefers}
 use Rattle.irv_count.specs.Orders.{member, stands}
 use Rattle.irv_count.proofs.Members.{differ_test, same_test}

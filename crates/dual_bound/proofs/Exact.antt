@@ -1,29 +1,28 @@
 -- The test over classes is the test of the definition, over ballots one by one and all valid new ballots.
-use Rattle.std.proofs.Common.{◌≡◌, ◌↔◌, ℕ, zero, suc, ◌+◌, ◌-◌, ◌*◌, ◌<◌, ◌≤◌, ◌==◌, List, [], ◌∷◌, ◌++◌, Bool, false, map, min, take, drop, length, get_or, sym, refl, ap, subst, ◌∙◌, inl, inr, arith, All}
+use Rattle.std.proofs.Common.{◌≡◌, ◌↔◌, ℕ, zero, suc, ◌+◌, ◌-◌, ◌<◌, ◌≤◌, List, [], ◌∷◌, ◌++◌, Bool, false, map, min, take, drop, length, get_or, sym, refl, ap, subst, ◌∙◌, inl, inr, arith, All}
 use Rattle.std.specs.Prelude.{ℤ, pos, ◌+ℤ◌, ◌-ℤ◌, ◌*ℤ◌, ◌≤ℤ◌, ◌<ℤ◌, IsTrue, nat_eq}
 use Rattle.std.specs.List.{zip}
 use Rattle.std.proofs.Math.IntN.{negsuc}
 use Rattle.std.proofs.lemmas.Int.{ints}
 use Rattle.std.proofs.lemmas.Bool.Decides.{Decides-eqb}
 use Rattle.std.proofs.lemmas.List.{length-map, length-take}
-use Rattle.mov_base.specs.Sums.{add_up, most, sum_z}
-use Rattle.mov_base.proofs.Signed.{distrib, sum_z-difference}
-use Rattle.mov_base.proofs.Sums.{add_up-le}
+use Rattle.mov_base.specs.Sums.{most, sum_z}
+use Rattle.mov_base.proofs.Signed.{distrib}
 use Rattle.ballot_form.specs.Ballots.{IsValidBallot}
 use Rattle.ballot_form.proofs.Lengths.{length_valid}
 use Rattle.row_program.specs.declared.Feature.{Feature}
 use Rattle.row_program.specs.declared.Feature.TheVariants.{From, Arc}
 use Rattle.row_program.specs.declared.Limit.{Limit}
-use Rattle.signature_class.specs.Classes.{IsGrouped, classes_of}
+use Rattle.signature_class.specs.Classes.{IsGrouped}
 use Rattle.signature_class.specs.Signatures.{cover_key, signature_of, suffix_key}
-use Rattle.signature_class.proofs.Counts.{keys_are_classes, sum-times_one}
+use Rattle.signature_class.proofs.Counts.{keys_are_classes}
 use Rattle.sig_graph.specs.Paths.{path_sum}
 use Rattle.sig_graph.specs.Rows.{one_where}
 use Rattle.goal_rows.specs.Elections.{Election, Node}
-use Rattle.goal_rows.specs.Goals.{IsElection, IsReached, IsRootOf, gainer_points, loser_points, pair_weight, rows_of}
+use Rattle.goal_rows.specs.Goals.{IsElection, IsReached, pair_weight, rows_of}
 use Rattle.goal_rows.specs.Nodes.{AreLimits, IsFeatureOf, Kept, counted_for, kept_limit, kept_row, node_of}
 use Rattle.goal_rows.specs.Races.{IsGroundIn, IsGroundOf, key_of, keys_of}
-use Rattle.goal_rows.specs.Suffixes.{counted_under_cover, cover_rows, others, prefer_weight, suffix_rows}
+use Rattle.goal_rows.specs.Suffixes.{counted_under_cover, cover_rows, others, prefer_weight}
 use Rattle.goal_rows.specs.declared.goals.Goal.{Goal}
 use Rattle.goal_rows.specs.declared.goals.Goal.TheVariants.{Root, Suffix, Pair, Cover}
 use Rattle.goal_rows.specs.declared.parts.Ground.{Ground}
@@ -32,7 +31,7 @@ use Rattle.goal_rows.proofs.PairPoints.{ArePairPoints, pair_points}
 use Rattle.goal_rows.proofs.Ways.{reached_cover, reached_pair, reached_suffix}
 use Rattle.dual_bound.specs.CutTest.{AreMultipliers, Cuts, CutsKept, IsBound, base_of, change_by, weighed_of}
 use Rattle.dual_bound.specs.Largest.{CutsAt, IsGreatestCut}
-use Rattle.dual_bound.specs.Weighing.{IsBestNew, base_by, cost_by, gain_by, is_from, limits_bring, of_limits, of_rows, over_weight, places_by, row_arcs, times_all}
+use Rattle.dual_bound.specs.Weighing.{IsBestNew, base_by, cost_by, gain_by, is_from, limits_bring, of_limits, of_rows, over_weight, row_arcs, times_all}
 use Rattle.dual_bound.proofs.Covers.{cover_above, cover_reached, cover_worth}
 use Rattle.dual_bound.proofs.Keyed.{IsByKey, IsMost, keyed_test, rows_change, rows_start, sum_z-zip, worth}
 use Rattle.dual_bound.proofs.Limits.{limits_change, limits_start, none_bring}

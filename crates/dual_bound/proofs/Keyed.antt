@@ -1,6 +1,6 @@
 -- Gains by keys: where what an old ballot costs is known from its key, and what a new one brings from the new one
 -- alone, the gain of a ballot is that of the best new one over the cost by its key.
-use Rattle.std.proofs.Common.{◌≡◌, ◌⊎◌, ◌↔◌, ℕ, suc, ◌+◌, ◌-◌, ◌*◌, ◌<◌, ◌≤◌, List, [], ◌∷◌, ◌++◌, map, drop, take, length, sym, refl, ap, subst, ◌∙◌, inl, inr, arith}
+use Rattle.std.proofs.Common.{◌≡◌, ◌⊎◌, ◌↔◌, ℕ, ◌-◌, List, [], ◌∷◌, ◌++◌, map, drop, take, length, refl, ap, ◌∙◌, inl, inr, arith}
 use Rattle.std.specs.Prelude.{ℤ, pos, ◌+ℤ◌, ◌-ℤ◌, ◌*ℤ◌, ◌≤ℤ◌, unsigned_abs}
 use Rattle.std.specs.Int.{int_max}
 use Rattle.std.specs.List.{zip}
@@ -12,7 +12,7 @@ use Rattle.ballot_form.specs.Ballots.{IsValidBallot, Poll}
 use Rattle.goal_rows.specs.Nodes.{Kept, kept_row}
 use Rattle.dual_bound.specs.CutTest.{AreGains, CutsKept, base_of, change_by}
 use Rattle.dual_bound.specs.Largest.{CutsAt}
-use Rattle.dual_bound.specs.Weighing.{gain_by, gain_over, times_all}
+use Rattle.dual_bound.specs.Weighing.{gain_by, times_all}
 use Rattle.dual_bound.proofs.Sound.{gains-unique}
 
 -- ---- the gain over a cost

@@ -1,8 +1,7 @@
 -- What a new ballot brings under a suffix, by its signature, and the most that one brings.
-use Rattle.std.proofs.Common.{◌≡◌, ℕ, ◌+◌, ◌<◌, ◌≤◌, ◌==◌, List, Bool, cond, length, map, ap, refl, sym, subst, ◌∙◌, arith}
-use Rattle.std.specs.Prelude.{ℤ, pos, ◌+ℤ◌, ◌-ℤ◌, ◌≤ℤ◌}
+use Rattle.std.proofs.Common.{◌≡◌, ℕ, ◌+◌, List, length, ap, ◌∙◌, arith}
+use Rattle.std.specs.Prelude.{ℤ, ◌+ℤ◌}
 use Rattle.std.proofs.lemmas.Int.{ints}
-use Rattle.mov_base.specs.Sums.{sum_z}
 use Rattle.mov_base.proofs.Signed.{sum_z-add}
 use Rattle.ballot_form.specs.Ballots.{IsValidBallot, Poll}
 use Rattle.row_program.specs.declared.Feature.{Feature}
