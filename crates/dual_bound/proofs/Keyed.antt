@@ -56,7 +56,7 @@ keyed_gains p weighed brings cost key best (ballot ∷ ballots) by greatest =
     )
 
 -- the test over the gains is that over rows and limits
-pub at_kept : (p : Poll) (weighed : List (ℕ × Kept)) (base : ℤ) (gains : List ℕ) (t : ℕ) → AreGains p weighed p.ballots gains → base_of weighed ≡ base
+at_kept : (p : Poll) (weighed : List (ℕ × Kept)) (base : ℤ) (gains : List ℕ) (t : ℕ) → AreGains p weighed p.ballots gains → base_of weighed ≡ base
     → CutsAt base gains t ↔ CutsKept p weighed t
 at_kept p weighed base gains t are is = (into, out)
   where
@@ -99,10 +99,6 @@ pub sum_z-made : {A B : Type 0} (f : ℕ × B → ℤ) (g : A → B) (ls : List 
 sum_z-made f g [] xs = refl
 sum_z-made f g (l ∷ ls) [] = refl
 sum_z-made f g (l ∷ ls) (x ∷ xs) = ap (λ z. f (l, g x) +ℤ z) (sum_z-made f g ls xs)
-
-pub sum_z-same : {A : Type 0} (f g : A → ℤ) (xs : List A) → ((x : A) → f x ≡ g x) → sum_z f xs ≡ sum_z g xs
-sum_z-same f g [] same = refl
-sum_z-same f g (x ∷ xs) same = let h = same x in let r = sum_z-same f g xs same in omega (arith, ints, h, r)
 
 -- ---- rows
 

@@ -72,12 +72,3 @@ pub none_bring : (ls : List ℕ) (limits : List Limit) → limits_bring (λ feat
 none_bring [] limits = refl
 none_bring (l ∷ ls) [] = refl
 none_bring (l ∷ ls) (limit ∷ limits) = let rest = none_bring ls limits in omega (arith, ints, rest)
-
-pub limits_same : (one other : Feature → Bool) (ls : List ℕ) (limits : List Limit) → ((feature : Feature) → one feature ≡ other feature)
-    → limits_bring one ls limits ≡ limits_bring other ls limits
-limits_same one other [] limits same = refl
-limits_same one other (l ∷ ls) [] same = refl
-limits_same one other (l ∷ ls) (limit ∷ limits) same =
-    let here = ap (λ t. cond t (signed limit l) (pos 0)) (same limit.feature) in
-    let rest = limits_same one other ls limits same in
-    omega (arith, ints, here, rest)
