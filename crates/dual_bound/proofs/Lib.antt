@@ -4,3 +4,9 @@ pub mod Sizes
 pub mod Sorting
 pub mod Gains
 pub mod Greedy
+pub mod Keyed
+pub mod Limits
+pub mod PathArcs
+pub mod SuffixWeights
+pub mod Covers
+pub mod Suffixes
