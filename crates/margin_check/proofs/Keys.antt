@@ -19,7 +19,7 @@ pub no_high_bits : (key bits : ℕ) → IsTrue (nat_eq (key / 2 ^ bits) 0) ↔ (
 no_high_bits key bits = (
   λ none.
       let z : key / 2 ^ bits ≡ 0 = (Decides-eqb (key / 2 ^ bits) 0).0 none in
-      let h = (div-lt_iff_lt-mul {2 ^ bits} {key} {1} (pow_pos bits)).0 (omega (arith, z)) in
+      let h = (div-lt_iff_lt-mul {k = 2 ^ bits} {x = key} {y = 1} (pow_pos bits)).0 (omega (arith, z)) in
       omega (arith, h),
   λ lt. (Decides-eqb (key / 2 ^ bits) 0).1 (div-eq_of_lt lt),
 )

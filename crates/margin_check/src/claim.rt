@@ -1,5 +1,5 @@
 // Whether what a certificate claims holds after its replacements.
-ghost use Rattle.std.specs.Prelude.{◌≡◌, ◌<◌, ◌+◌, ◌≤◌, ◌↔◌, IfOk, IsTrue, length};
+ghost use Rattle.std.specs.Prelude.{◌≡◌, ◌<◌, ◌+◌, ◌≤◌, ◌↔◌, IfOk, IsTrue, Some, length};
 ghost use Rattle.ballot_form.specs.declared.limits.TheConstants.{MOST_BALLOTS};
 ghost use Rattle.goal_rows.specs.Goals.{Holds, IsComplete};
 ghost use Rattle.goal_rows.specs.Races.{election_of};
@@ -43,7 +43,6 @@ pub(crate) fn claim_holds(
 }
 
 /// Whether there is a goal, and it is complete and holds on the ballots.
-#[tactic(auto, using(crate::proofs::Claims::met_pair, crate::proofs::Claims::met_cover, crate::proofs::Claims::met_order))]
 fn is_met(
     alloc: Global,
     race: &Race<'_>,
@@ -56,12 +55,28 @@ fn is_met(
 {
     match text {
         None => Ok(false),
-        Some(GoalText::Order(order)) => order_is_met(alloc, race, altered, order.as_slice()),
-        Some(GoalText::Pair(gainer, loser)) => {
+        Some(text) => text_is_met(alloc, race, altered, text),
+    }
+}
+
+/// Whether the goal that is named is complete and holds on the ballots.
+fn text_is_met(
+    alloc: Global,
+    race: &Race<'_>,
+    altered: &Roll,
+    text: &GoalText,
+) -> Result<bool, Memory>
+    requires same_sizes { altered.now.c ≡ race.now.roll.now.c }
+    requires same_length { length altered.now.ballots ≡ length race.now.roll.now.ballots }
+    ensures { IfOk result (λ met. IsTrue met ↔ IsMet (election_of race.now) (Some text.now) altered.now.ballots) }
+{
+    match text {
+        GoalText::Order(order) => order_is_met(alloc, race, altered, order.as_slice()),
+        GoalText::Pair(gainer, loser) => {
             let goal = Goal::Pair(*gainer, *loser);
             Ok(goal_is_met(race, altered, &goal))
         }
-        Some(GoalText::Cover(x)) => {
+        GoalText::Cover(x) => {
             let goal = Goal::Cover(*x);
             Ok(goal_is_met(race, altered, &goal))
         }

@@ -2,13 +2,13 @@ use Rattle.std.proofs.Common.{rules, [], ◌++◌, All, ◌≡◌, ◌<◌, ◌+
 use Rattle.bound_tree.specs.Plain.{plain_of}
 use Rattle.bound_tree.proofs.Shapes.{size_Branch, size_Split}
 use Rattle.goal_rows.specs.Goals.{IsReached}
-use Rattle.goal_rows.specs.Nodes.{node_of}
+use Rattle.goal_rows.specs.Nodes.{AreLimits, node_of, with_limit}
 use Rattle.goal_rows.specs.Races.{election_of}
 use Rattle.margin_check.specs.Visits.{high_half, high_limit, low_half, low_limit, visits}
-use Rattle.margin_check.specs.Walks.{EndsAt, Gives, IsKnown}
+use Rattle.margin_check.specs.Walks.{EndsAt, FitsBelow, Gives, IsKnown}
 use Rattle.margin_check.specs.declared.walk.End.TheVariants.{Stopped, Through}
 use Rattle.margin_check.proofs.Branches.{before, behind, fits_halves, fits_kids, half_limits, kid_below, lent_branch}
-use Rattle.margin_check.proofs.Nodes.{as_many_kids, branch_feature, given_for, has_cover, if_ok, kid_few, kid_fits, kid_known, kid_node, kid_smaller, kid_stops, kid_through, kids_from, known_below, known_for, no_limits, none_behind, over_branch, over_split, rest_of, split_free, walk_over_rest}
+use Rattle.margin_check.proofs.Nodes.{as_many_kids, branch_feature, given_for, has_cover, if_ok, kid_few, kid_fits, kid_known, kid_node, kid_smaller, kid_stops, kid_through, kids_from, known_below, known_for, no_limits, none_behind, over_branch, over_split, rest_of, split_free, stopped_in, through_both, visits_few, walk_over_rest}
 use Rattle.margin_check.proofs.Ways.{cover_reached}
 use Rattle.margin_check.proofs.walk.+walk.Goals as goal
 
@@ -204,3 +204,59 @@ walk_among-loop-i-preserved t c =
 pub walk_among-returns-clause-end : goal.walk_among-returns-clause-end
 walk_among-returns-clause-end t c = c.loop-i.invariant.rest (Through c.loop-i.next)
     (none_behind (Gives (election_of c.args.race.now) c.args.asked) (election_of c.args.race.now) c.args.goals.now c.args.kids.now c.loop-i.i c.loop-i.next c.loop-i-test.false)
+
+pub walk_halves-walk_half-requires-in-Through : goal.walk_halves-walk_half-requires-in-Through
+walk_halves-walk_half-requires-in-Through t c =
+    let e = election_of c.args.race.now in
+    let start = c.args.start.now in
+    let f = c.args.feature in
+    let v = c.args.value in
+    let node = node_of start c.args.limits.now.items in
+    let same = c.in_ok-behind.ensures.limits in
+    let ends = subst (λ x. EndsAt (Gives e c.args.asked) c.args.number (visits e (low_half node f v) (plain_of c.args.low.now)) x) c.in-Through.is c.in_ok-behind.ensures.end in (
+      search rules,
+      (
+        c.requires.race,
+        (
+          c.requires.start,
+          (
+            subst (λ ls. AreLimits e (with_limit (node_of start ls) (high_limit f v))) (sym same) c.requires.high,
+            (
+              subst (λ ls. FitsBelow (length ls + 1) (plain_of c.args.high.now)) (sym same) c.requires.high_fits,
+              (
+                omega (arith, ends.1, visits_few e (low_half node f v) (plain_of c.args.low.now), c.requires.few),
+                (
+                  subst (λ ls. All (IsKnown e c.args.asked) (visits e (with_limit (node_of start ls) (high_limit f v)) (plain_of c.args.high.now))) (sym same) c.requires.high_known,
+                  search rules,
+                ),
+              ),
+            ),
+          ),
+        ),
+      ),
+    )
+
+pub walk_halves-returns-in-Through-clause-end : goal.walk_halves-returns-in-Through-clause-end
+walk_halves-returns-in-Through-clause-end t c =
+    let e = election_of c.args.race.now in
+    let start = c.args.start.now in
+    let f = c.args.feature in
+    let v = c.args.value in
+    let node = node_of start c.args.limits.now.items in
+    let P = Gives e c.args.asked in
+    let lows = visits e (low_half node f v) (plain_of c.args.low.now) in
+    let highs = visits e (high_half node f v) (plain_of c.args.high.now) in
+    let ends = subst (λ x. EndsAt P c.args.number lows x) c.in-Through.is c.in_ok-behind.ensures.end in
+    if_ok c.walk_half-in-Through.result
+    (λ end rest. through_both P c.args.number c.in-Through.behind lows highs end ends
+    (subst (λ ls. EndsAt P c.in-Through.behind (visits e (with_limit (node_of start ls) (high_limit f v)) (plain_of c.args.high.now)) end) c.in_ok-behind.ensures.limits rest))
+    c.walk_half-in-Through.ensures.end
+
+pub walk_halves-returns-in-Stopped-clause-end : goal.walk_halves-returns-in-Stopped-clause-end
+walk_halves-returns-in-Stopped-clause-end t c =
+    let e = election_of c.args.race.now in
+    let node = node_of c.args.start.now c.args.limits.now.items in
+    let P = Gives e c.args.asked in
+    let lows = visits e (low_half node c.args.feature c.args.value) (plain_of c.args.low.now) in
+    let highs = visits e (high_half node c.args.feature c.args.value) (plain_of c.args.high.now) in
+    stopped_in P c.args.number lows highs c.in-Stopped.at (subst (λ x. EndsAt P c.args.number lows x) c.in-Stopped.is c.in_ok-behind.ensures.end)
