@@ -304,6 +304,18 @@ VALID
 rule plurality
 margin 2
 END
+    for cert in cycle cycle-branch; do
+        prints "a valid certificate of a cycle: $cert" check cycle.csv "$cert.cert" <<'END'
+VALID
+rule condorcet
+margin 1
+END
+    done
+    prints "a valid certificate of a runoff" check runoff.csv runoff.cert <<'END'
+VALID
+rule irv
+margin 1
+END
     with_line 5 "bounds 1 2 budget 1" five-two.cert >bounds.cert
     prints "valid bounds" check five-two.csv bounds.cert <<'END'
 VALID
@@ -315,9 +327,6 @@ END
 # --- statuses 2 to 5
 
 refusals() {
-    refuses "0 NotBuilt line 2" cycle.csv cycle.cert
-    refuses "0 NotBuilt line 2" cycle.csv cycle-branch.cert
-    refuses "0 NotBuilt line 2" runoff.csv runoff.cert
     with_line 3 "size 2 8" five-two.cert >refused.cert
     refuses "1 HeadDiffers line 3" five-two.csv refused.cert
     with_line 4 "reported 1" five-two.cert >refused.cert
@@ -334,6 +343,8 @@ refusals() {
     refuses "6 CutFails line 10" five-two.csv refused.cert
     with_line 5 "bounds 2 2 depth" five-two.cert >refused.cert
     refuses "7 NumbersDisagree line 5" five-two.csv refused.cert
+    with_line 15 "cut 0 0 0" runoff.cert >refused.cert
+    refuses "6 CutFails line 15" runoff.csv refused.cert
 }
 
 # word_fault TEXT WORD..: what is said of these words.

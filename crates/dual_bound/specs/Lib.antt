@@ -1,2 +1,3 @@
 pub mod Largest
 pub mod CutTest
+pub mod Weighing

@@ -7,7 +7,6 @@ use Rattle.ballot_form.specs.Ballots.{Poll}
 use Rattle.ballot_form.specs.declared.limits.TheConstants.{MOST_BALLOTS}
 use Rattle.ballot_form.specs.declared.outcome.Outcome.{Outcome}
 use Rattle.ballot_form.specs.declared.rule.Rule.{Rule}
-use Rattle.ballot_form.specs.declared.rule.Rule.TheVariants.{Plurality, Borda, Condorcet, Dhondt, Irv}
 use Rattle.alteration_model.specs.Faults.{IsFirstFault, IsFirstFaultFrom, IsPutFault, pairs_of}
 use Rattle.alteration_model.specs.Faults.{Judges as Judged}
 use Rattle.alteration_model.specs.declared.faults.AlterFault.{AlterFault}
@@ -17,7 +16,7 @@ use Rattle.bound_tree.specs.Nodes.{size}
 use Rattle.bound_tree.specs.Plain.{Plain}
 use Rattle.bound_tree.specs.declared.bound.TheConstants.{MOST_NODES}
 use Rattle.goal_rows.specs.Elections.{Election, Node}
-use Rattle.goal_rows.specs.Goals.{IsDecidedByPairs, root_goals}
+use Rattle.goal_rows.specs.Goals.{root_goals}
 use Rattle.goal_rows.specs.Outcomes.{IsReported}
 use Rattle.goal_rows.specs.Nodes.{without_limits}
 use Rattle.goal_rows.specs.Races.{IsRace, election_of}
@@ -30,7 +29,7 @@ use Rattle.cert_text.specs.declared.cert.Claim.{Claim}
 use Rattle.cert_text.specs.declared.cert.Claim.TheVariants.{Margin, Fixed, Bounds}
 use Rattle.cert_text.specs.declared.cert.GoalText.{GoalText}
 use Rattle.margin_check.specs.Validity.{ClaimHolds, HasSizes, IsTurned, cert_visits, election_by, level_of}
-use Rattle.margin_check.specs.Verdicts.{IsFirstWithout, IsJudged, IsRefusal, Judges, place_of}
+use Rattle.margin_check.specs.Verdicts.{IsFirstWithout, IsRefusal, Judges, place_of}
 use Rattle.margin_check.specs.Visits.{Visit, visits}
 use Rattle.margin_check.specs.Walks.{EndsAt, Gives, IsWithin}
 use Rattle.margin_check.specs.declared.verdict.Reason.{Reason}
@@ -43,13 +42,6 @@ use Rattle.margin_check.specs.declared.walk.End.TheVariants.{Through, Stopped}
 use Rattle.margin_check.proofs.Nodes.{visits_few}
 
 -- ---- the rule, the outcome and the ballots
-
-pub judged_pairs : (rule : Rule) (o : Outcome) → IsJudged rule → IsDecidedByPairs rule o
-judged_pairs Plurality o is = tt
-judged_pairs Borda o is = tt
-judged_pairs Condorcet o is = absurd is
-judged_pairs (Dhondt seats) o is = tt
-judged_pairs Irv o is = absurd is
 
 pub same_election : (race : Race) (p : Poll) (cert : Cert) → race.rule ≡ cert.rule → race.roll.now ≡ p → race.reported ≡ cert.reported
     → race.roots ≡ root_goals cert.rule p.c race.reported → election_of race ≡ election_by p cert
@@ -159,7 +151,6 @@ first_stopped P number at xs end is ends = subst (λ x. EndsAt P number xs x) is
 
 -- what is known once the claim is judged
 pub record Known (p : Poll) (cert : Cert) (race : Race) (holds : Bool) : Type 0 where
-  pub judged : IsJudged cert.rule
   pub sizes : HasSizes p cert
   pub same : election_of race ≡ election_by p cert
   pub reported : IsReported cert.rule p cert.reported
@@ -168,12 +159,11 @@ pub record Known (p : Poll) (cert : Cert) (race : Race) (holds : Bool) : Type 0 
 
 module _ (p : Poll) (cert : Cert) (race : Race) (is : IsRace race) (rule : race.rule ≡ cert.rule) (poll : race.roll.now ≡ p)
     (outcome : race.reported ≡ cert.reported) (roots : race.roots ≡ root_goals cert.rule p.c race.reported) where
-  pub known : IsJudged cert.rule → HasSizes p cert → (altered : Poll) (shown : List Put) (changes : List (ℕ × List ℕ)) (holds : Bool) → altered ≡ after p changes → changes ≡ pairs_of shown
+  pub known : HasSizes p cert → (altered : Poll) (shown : List Put) (changes : List (ℕ × List ℕ)) (holds : Bool) → altered ≡ after p changes → changes ≡ pairs_of shown
       → shown ≡ cert.puts → IsAlteration p changes → (IsTrue holds ↔ ClaimHolds (election_of race) cert.claim cert.goal altered.ballots) → Known p cert race holds
-  known judged sizes altered shown changes holds made pairs lent ok test =
+  known sizes altered shown changes holds made pairs lent ok test =
       let same = same_election race p cert rule poll outcome roots in
       record {
-        judged = judged;
         sizes = sizes;
         same = same;
         reported = reported_so p cert race same is;

@@ -8,12 +8,13 @@ use Rattle.alteration_model.specs.declared.puts.Put.{Put}
 use Rattle.alteration_model.proofs.Judged.{no_longer}
 use Rattle.bound_tree.specs.Plain.{Plain}
 use Rattle.goal_rows.specs.Elections.{Election}
-use Rattle.goal_rows.specs.Goals.{IsDecidedByPairs, root_goals}
+use Rattle.goal_rows.specs.Goals.{AreRoots, root_goals}
 use Rattle.goal_rows.specs.Margins.{IsUnturnable, NoneBelow}
 use Rattle.goal_rows.specs.Nodes.{without_limits}
 use Rattle.goal_rows.specs.Outcomes.{IsReported}
 use Rattle.goal_rows.specs.declared.goals.Goal.TheVariants.{Root}
-use Rattle.goal_rows.proofs.PairTurning.{pair_turning}
+use Rattle.goal_rows.proofs.Roots.{roots_are_lawful}
+use Rattle.goal_rows.proofs.Turning.{contest_turning}
 use Rattle.cert_text.specs.CertText.{BodyFits, IsPrintable}
 use Rattle.cert_text.specs.declared.cert.Cert.{Cert}
 use Rattle.cert_text.specs.declared.cert.Claim.{Claim}
@@ -31,12 +32,14 @@ many_puts c k claim (Some goal) puts is body =
     let fits : BodyFits c (Margin k) (Some goal) puts = subst (λ x. BodyFits c x (Some goal) puts) is body in
     length-map puts (λ put. (put.number, put.ballot)) ∙ fits.1
 
-module _ (e : Election) (poll : IsPoll e.poll) (is : IsReported e.rule e.poll e.reported) (paired : IsDecidedByPairs e.rule e.reported)
-    (roots : e.roots ≡ root_goals e.rule e.poll.c e.reported) where
+module _ (e : Election) (poll : IsPoll e.poll) (is : IsReported e.rule e.poll e.reported) (roots : e.roots ≡ root_goals e.rule e.poll.c e.reported) where
+  lawful : AreRoots e
+  lawful = roots_are_lawful e poll is roots
+
   none_below : (t : ℕ) (tree : Plain) → Proves e t (without_limits Root) tree → NoneBelow e.rule e.poll t
   none_below t tree proved changes ok short turns =
-      let met = (pair_turning e changes poll is paired roots).0 turns in
-      refuted e t changes met.0 ok short met.2 met.1 tree proved
+      let met = (contest_turning e changes poll is roots ok).0 turns in
+      refuted e t changes met.0 ok short met.2 met.1 lawful tree proved
 
   unturnable : (tree : Plain) → Proves e (length e.poll.ballots + 1) (without_limits Root) tree → IsUnturnable e.rule e.poll
   unturnable tree proved changes ok turns =
@@ -47,7 +50,7 @@ module _ (e : Election) (poll : IsPoll e.poll) (is : IsReported e.rule e.poll e.
   turned text changes k ok many met = record {
     alteration = ok;
     many = many;
-    turned = (pair_turning e changes poll is paired roots).1 (met.0, met.2, met.3);
+    turned = (contest_turning e changes poll is roots ok).1 (met.0, met.2, met.3);
   }
 
   pub says : (c : ℕ) (claim : Claim) (text : Option GoalText) (puts : List Put) (tree : Plain) → IsAlteration e.poll (pairs_of puts)
@@ -65,6 +68,6 @@ module _ (e : Election) (poll : IsPoll e.poll) (is : IsReported e.rule e.poll e.
 
 pub claim_is_true : (p : Poll) (cert : Cert) → IsPoll p → IsPrintable cert → IsValidCert p cert → ClaimIsTrue p cert
 claim_is_true p cert poll printable valid =
-    says (election_by p cert) poll valid.reported valid.built refl cert.c cert.claim cert.goal cert.puts cert.tree valid.alteration valid.claim
+    says (election_by p cert) poll valid.reported refl cert.c cert.claim cert.goal cert.puts cert.tree valid.alteration valid.claim
     (to_proves (election_by p cert) (level_of (length p.ballots) cert.claim) cert.tree (without_limits Root) valid.shape valid.cuts)
     valid.numbers printable.body

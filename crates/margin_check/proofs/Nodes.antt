@@ -16,12 +16,11 @@ use Rattle.bound_tree.specs.Plain.{Plain, Kids, Split, Branch, Cut, kids_of, pla
 use Rattle.bound_tree.specs.Plain as tree
 use Rattle.bound_tree.proofs.Shapes.{plain_Split, plain_Branch, plain_Cut, size_more}
 use Rattle.goal_rows.specs.Elections.{Election, Node}
-use Rattle.goal_rows.specs.Goals.{IsReached, cover_of}
+use Rattle.goal_rows.specs.Goals.{cover_of}
 use Rattle.goal_rows.specs.Nodes.{AreLimits, IsFeatureOf, node_of, with_limit, without_limits}
 use Rattle.goal_rows.specs.declared.goals.Goal.{Goal}
-use Rattle.goal_rows.specs.declared.goals.Goal.TheVariants.{Root, Pair}
 use Rattle.goal_rows.specs.declared.parts.Ground.{Ground}
-use Rattle.goal_rows.proofs.Ways.{reached_exactly}
+use Rattle.margin_check.proofs.Branches.{before, behind}
 use Rattle.margin_check.specs.Proving.{IsShaped, number_count}
 use Rattle.margin_check.specs.Verdicts.{IsFirstWithout}
 use Rattle.margin_check.specs.Visits.{Visit, high_limit, kid_goals, low_limit, visit_of, visits, visits_among}
@@ -40,10 +39,6 @@ kids_counted (kid ∷ kids) = ap suc (kids_counted kids)
 pub none_long : {X : Type 0} (xs : List X) → (length xs == 0) ≡ true → xs ≡ []
 none_long [] is = refl
 none_long (x ∷ xs) is = absurd (grind (arith, nat_tests))
-
-pub no_feature : (e : Election) (goal : Goal) (feature : Feature) → IsFeatureOf e goal feature → ⊥
-no_feature e Root feature h = h
-no_feature e (Pair g l) feature h = h
 
 pub shaped_Split : (e : Election) (node : Node) (tree : Tree) (kids : List Tree) → tree ≡ program.Split kids
     → IsShaped e node (plain_of tree) ↔ ((node.limits ≡ []) × (option_map length (cover_of e node.goal) ≡ Some (length kids)))
@@ -162,10 +157,10 @@ over_split e node tree kids lent goals shown is covered shown_is lent_is =
     let got : kid_goals (cover_of e node.goal) ≡ shown = ap kid_goals covered ∙ sym shown_is in
     rw (same, got, lent_is) refl
 
-pub walk_over_split : (e : Election) (asked : Asked) (node : Node) (tree : Tree) (among : List Visit) (number : ℕ) (end : End)
+pub walk_over_rest : (e : Election) (asked : Asked) (node : Node) (tree : Tree) (among : List Visit) (number : ℕ) (end : End)
     → visits e node (plain_of tree) ≡ visit_of node (plain_of tree) ∷ among → Gives e asked (visit_of node (plain_of tree))
     → EndsAt (Gives e asked) (number + 1) among end → EndsAt (Gives e asked) number (visits e node (plain_of tree)) end
-walk_over_split e asked node tree among number end are good rest =
+walk_over_rest e asked node tree among number end are good rest =
     rw are (one_through (Gives e asked) number (visit_of node (plain_of tree)) among end good rest)
 
 pub known_below : (e : Election) (asked : Asked) (node : Node) (tree : Tree) (among : List Visit)
@@ -183,13 +178,19 @@ pub known_for : (e : Election) (asked : Asked) (start : Ground) (shown limits : 
 known_for e asked start shown limits tree same known =
     subst (λ ls. IsKnown e asked (visit_of (node_of start ls) tree)) (sym same) (first_known e asked (node_of start limits) tree known)
 
--- a branch hasn't its shape yet
-pub no_branch : (e : Election) (asked : Asked) (node : Node) (tree : Tree) (feature : Feature) (value : ℕ) (low high : Tree)
-    → tree ≡ program.Branch feature value low high → All (IsKnown e asked) (visits e node (plain_of tree)) → Gives e asked (visit_of node (plain_of tree)) → ⊥
-no_branch e asked node tree feature value low high is known given =
-    no_feature e node.goal feature
-    ((shaped_Branch e node tree feature value low high is).0
-    (shape_known e asked (visit_of node (plain_of tree)) (first_known e asked node (plain_of tree) known) given))
+-- the visits of a branch
+pub over_branch : (e : Election) (node : Node) (tree : Tree) (feature : Feature) (value : ℕ) (low high : Tree) → tree ≡ program.Branch feature value low high
+    → visits e node (plain_of tree) ≡ visit_of node (plain_of tree) ∷ (visits e (with_limit node (low_limit feature value)) (plain_of low) ++ visits e (with_limit node (high_limit feature value)) (plain_of high))
+over_branch e node tree feature value low high is =
+    let same : plain_of tree ≡ Branch feature value (plain_of low) (plain_of high) = ap plain_of is ∙ plain_Branch feature value low high in
+    rw same refl
+
+pub branch_feature : (e : Election) (asked : Asked) (node : Node) (tree : Tree) (feature : Feature) (value : ℕ) (low high : Tree)
+    → tree ≡ program.Branch feature value low high → All (IsKnown e asked) (visits e node (plain_of tree)) → Gives e asked (visit_of node (plain_of tree))
+    → IsFeatureOf e node.goal feature
+branch_feature e asked node tree feature value low high is known given =
+    (shaped_Branch e node tree feature value low high is).0
+    (shape_known e asked (visit_of node (plain_of tree)) (first_known e asked node (plain_of tree) known) given)
 
 -- what walking over the kids of a split asks
 split_shape : (e : Election) (asked : Asked) (node : Node) (tree : Tree) (kids : List Tree) → tree ≡ program.Split kids
@@ -217,23 +218,9 @@ has_cover e asked node tree kids is covered known given =
     let t : None ≡ Some (length kids) = ap (option_map length) (sym covered) ∙ (split_shape e asked node tree kids is known given).1 in
     cc
 
-pub cover_reached : (e : Election) (goals : List Goal) (goal : Goal) → cover_of e goal ≡ Some goals → All (IsReached e) goals
-cover_reached e goals Root covered =
-    let same : e.roots ≡ goals = cc in
-    rw (← same) (λ k d lt. (reached_exactly e (get_or e.roots k d)).1 (inr (All-contains_itself e.roots k d lt)))
-cover_reached e goals (Pair g l) covered = cc
-
 pub if_ok : {X E : Type 0} {P Q : X → Type 0} (result : Result X E) → ((x : X) → P x → Q x) → IfOk result P → IfOk result Q
 if_ok (Ok x) weaker h = weaker x h
 if_ok (Err e) weaker h = tt
-
-pub before : {X : Type 0} (P : X → Type 0) (xs ys : List X) → All P (xs ++ ys) → All P xs
-before P [] ys all = All-nil P
-before P (x ∷ xs) ys all = All-cons P x xs (All-head P x (xs ++ ys) all) (before P xs ys (All-tail P x (xs ++ ys) all))
-
-pub behind : {X : Type 0} (P : X → Type 0) (xs ys : List X) → All P (xs ++ ys) → All P ys
-behind P [] ys all = all
-behind P (x ∷ xs) ys all = behind P xs ys (All-tail P x (xs ++ ys) all)
 
 -- ---- a walk over the kids of a split, from the i-th on
 
@@ -241,21 +228,21 @@ behind P (x ∷ xs) ys all = behind P xs ys (All-tail P x (xs ++ ys) all)
 abbrev pub rest_of : Election → List Goal → List Tree → ℕ → List Visit
 rest_of e goals kids i = visits_among e (drop i goals) (kids_of (map plain_of (drop i kids)))
 
-pub kids_from : (e : Election) (goals : List Goal) (kids : List Tree) (i : ℕ) (d : Goal) (kid : Tree) → i < length goals → i < length kids → kid ≡ get_or kids i kid
-    → rest_of e goals kids i ≡ visits e (without_limits (get_or goals i d)) (plain_of kid) ++ rest_of e goals kids (i + 1)
-kids_from e goals kids i d kid first second same =
-    let g : drop i goals ≡ get_or goals i d ∷ drop (i + 1) goals = drop_more goals i d first in
+pub kids_from : (e : Election) (goals : List Goal) (kids : List Tree) (i : ℕ) (goal : Goal) (kid : Tree) → i < length goals → i < length kids → goal ≡ get_or goals i goal → kid ≡ get_or kids i kid
+    → rest_of e goals kids i ≡ visits e (without_limits goal) (plain_of kid) ++ rest_of e goals kids (i + 1)
+kids_from e goals kids i goal kid first second goal_is same =
+    let g : drop i goals ≡ goal ∷ drop (i + 1) goals = drop_more goals i goal first ∙ ap (λ g. g ∷ drop (i + 1) goals) (sym goal_is) in
     let k : drop i kids ≡ kid ∷ drop (i + 1) kids = drop_more kids i kid second ∙ ap (λ k. k ∷ drop (i + 1) kids) (sym same) in
     rw (g, k) refl
 
 -- what is known of a kid, and of those behind it
-pub kid_known : (P : Visit → Type 0) (e : Election) (goals : List Goal) (kids : List Tree) (i : ℕ) (d : Goal) (kid : Tree) → i < length goals → i < length kids → kid ≡ get_or kids i kid
-    → All P (rest_of e goals kids i) → All P (visits e (without_limits (get_or goals i d)) (plain_of kid)) × All P (rest_of e goals kids (i + 1))
-kid_known P e goals kids i d kid first second same known =
-    let all : All P (visits e (without_limits (get_or goals i d)) (plain_of kid) ++ rest_of e goals kids (i + 1)) =
-    subst (λ vs. All P vs) (kids_from e goals kids i d kid first second same) known in (
-      before P (visits e (without_limits (get_or goals i d)) (plain_of kid)) (rest_of e goals kids (i + 1)) all,
-      behind P (visits e (without_limits (get_or goals i d)) (plain_of kid)) (rest_of e goals kids (i + 1)) all,
+pub kid_known : (P : Visit → Type 0) (e : Election) (goals : List Goal) (kids : List Tree) (i : ℕ) (goal : Goal) (kid : Tree) → i < length goals → i < length kids → goal ≡ get_or goals i goal
+    → kid ≡ get_or kids i kid → All P (rest_of e goals kids i) → All P (visits e (without_limits goal) (plain_of kid)) × All P (rest_of e goals kids (i + 1))
+kid_known P e goals kids i goal kid first second goal_is same known =
+    let all : All P (visits e (without_limits goal) (plain_of kid) ++ rest_of e goals kids (i + 1)) =
+    subst (λ vs. All P vs) (kids_from e goals kids i goal kid first second goal_is same) known in (
+      before P (visits e (without_limits goal) (plain_of kid)) (rest_of e goals kids (i + 1)) all,
+      behind P (visits e (without_limits goal) (plain_of kid)) (rest_of e goals kids (i + 1)) all,
     )
 
 pub no_limits : (e : Election) (node : Node) → node.limits ≡ [] → AreLimits e node

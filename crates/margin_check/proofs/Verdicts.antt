@@ -1,5 +1,5 @@
 -- There is one verdict on a certificate.
-use Rattle.std.proofs.Common.{ℕ, zero, suc, List, [], ◌∷◌, ◌++◌, Some, None, All, ◌≡◌, ◌<◌, ◌∙◌, ◌↔◌, get_or, length, refl, ap, sym, subst, inl, inr, arith}
+use Rattle.std.proofs.Common.{ℕ, zero, suc, List, [], ◌∷◌, ◌++◌, Some, None, All, ◌≡◌, ◌<◌, ◌∙◌, ◌↔◌, get_or, length, refl, ap, sym, subst, inl, inr, arith, ◌-◌, ◌+◌, ◌≤◌}
 use Rattle.std.proofs.lemmas.Bool.{cases_lt}
 use Rattle.std.proofs.lemmas.List.Elements.{All-head, All-tail}
 use Rattle.ballot_form.specs.Alterations.{IsAlteration}
@@ -12,17 +12,16 @@ use Rattle.alteration_model.proofs.Unique.{one_first_fault}
 use Rattle.cert_text.specs.declared.cert.Cert.{Cert}
 use Rattle.margin_check.specs.Proving.{IsShaped, Passes}
 use Rattle.margin_check.specs.Validity.{IsValidCert, cert_visits, election_by, level_of}
-use Rattle.margin_check.specs.Verdicts.{Fails, IsFirstWithout, IsJudged, IsRefusal, Judges, Part, PartsHold, earlier, place_of, reason_number, reasons}
+use Rattle.margin_check.specs.Verdicts.{Fails, IsFirstWithout, IsRefusal, Judges, Part, PartsHold, earlier, place_of, reason_number, reasons}
 use Rattle.margin_check.specs.Visits.{Visit}
 use Rattle.margin_check.specs.declared.verdict.Reason.{Reason}
-use Rattle.margin_check.specs.declared.verdict.Reason.TheVariants.{NotBuilt, HeadDiffers, ReportedDiffers, BadAlteration, ClaimFails, ShapeDiffers, CutFails, NumbersDisagree}
+use Rattle.margin_check.specs.declared.verdict.Reason.TheVariants.{HeadDiffers, ReportedDiffers, BadAlteration, ClaimFails, ShapeDiffers, CutFails, NumbersDisagree}
 use Rattle.margin_check.specs.declared.verdict.Verdict.{Verdict}
 use Rattle.margin_check.specs.declared.verdict.Verdict.TheVariants.{Valid, No}
 
 -- ---- the reasons in their order
 
-reason_back : (reason : Reason) → get_or reasons (reason_number reason) NotBuilt ≡ reason
-reason_back NotBuilt = refl
+reason_back : (reason : Reason) → get_or reasons (reason_number reason - 1) HeadDiffers ≡ reason
 reason_back HeadDiffers = refl
 reason_back ReportedDiffers = refl
 reason_back BadAlteration = refl
@@ -32,10 +31,9 @@ reason_back CutFails = refl
 reason_back NumbersDisagree = refl
 
 one_number : (reason other : Reason) → reason_number reason ≡ reason_number other → other ≡ reason
-one_number reason other same = sym (reason_back other) ∙ ap (λ n. get_or reasons n NotBuilt) (sym same) ∙ reason_back reason
+one_number reason other same = sym (reason_back other) ∙ ap (λ n. get_or reasons (n - 1) HeadDiffers) (sym same) ∙ reason_back reason
 
-earlier_many : (reason : Reason) → length (earlier reason) ≡ reason_number reason
-earlier_many NotBuilt = refl
+earlier_many : (reason : Reason) → length (earlier reason) + 1 ≡ reason_number reason
 earlier_many HeadDiffers = refl
 earlier_many ReportedDiffers = refl
 earlier_many BadAlteration = refl
@@ -45,8 +43,7 @@ earlier_many CutFails = refl
 earlier_many NumbersDisagree = refl
 
 later : (reason : Reason) → (rest : List Reason) × (earlier reason ++ rest ≡ reasons)
-later NotBuilt = (reasons, refl)
-later HeadDiffers = (HeadDiffers ∷ ReportedDiffers ∷ BadAlteration ∷ ClaimFails ∷ ShapeDiffers ∷ CutFails ∷ NumbersDisagree ∷ [], refl)
+later HeadDiffers = (reasons, refl)
 later ReportedDiffers = (ReportedDiffers ∷ BadAlteration ∷ ClaimFails ∷ ShapeDiffers ∷ CutFails ∷ NumbersDisagree ∷ [], refl)
 later BadAlteration = (BadAlteration ∷ ClaimFails ∷ ShapeDiffers ∷ CutFails ∷ NumbersDisagree ∷ [], refl)
 later ClaimFails = (ClaimFails ∷ ShapeDiffers ∷ CutFails ∷ NumbersDisagree ∷ [], refl)
@@ -54,26 +51,28 @@ later ShapeDiffers = (ShapeDiffers ∷ CutFails ∷ NumbersDisagree ∷ [], refl
 later CutFails = (CutFails ∷ NumbersDisagree ∷ [], refl)
 later NumbersDisagree = (NumbersDisagree ∷ [], refl)
 
-part_among : (p : Poll) (cert : Cert) (before rest : List Reason) (i : ℕ) → i < length before → PartsHold before p cert → Part (get_or (before ++ rest) i NotBuilt) p cert
+part_among : (p : Poll) (cert : Cert) (before rest : List Reason) (i : ℕ) → i < length before → PartsHold before p cert → Part (get_or (before ++ rest) i HeadDiffers) p cert
 part_among p cert [] rest i lt holds = absurd (omega (arith, lt))
 part_among p cert (reason ∷ before) rest zero lt holds = holds.0
 part_among p cert (reason ∷ before) rest (suc i) lt holds = part_among p cert before rest i (omega (arith, lt)) holds.1
 
+some_number : (reason : Reason) → 1 ≤ reason_number reason
+some_number reason = omega (arith, earlier_many reason)
+
 part_before : (p : Poll) (cert : Cert) (reason other : Reason) → reason_number reason < reason_number other → PartsHold (earlier other) p cert → Part reason p cert
 part_before p cert reason other lt holds =
     let behind = later other in
-    subst (λ r. Part r p cert) (ap (λ rs. get_or rs (reason_number reason) NotBuilt) behind.1 ∙ reason_back reason)
-    (part_among p cert (earlier other) behind.0 (reason_number reason) (omega (arith, lt, earlier_many other)) holds)
+    subst (λ r. Part r p cert) (ap (λ rs. get_or rs (reason_number reason - 1) HeadDiffers) behind.1 ∙ reason_back reason)
+    (part_among p cert (earlier other) behind.0 (reason_number reason - 1) (omega (arith, lt, earlier_many other, some_number reason)) holds)
 
-part_of : (reason : Reason) (p : Poll) (cert : Cert) → IsJudged cert.rule → IsValidCert p cert → Part reason p cert
-part_of NotBuilt p cert is valid = is
-part_of HeadDiffers p cert is valid = valid.head
-part_of ReportedDiffers p cert is valid = valid.reported
-part_of BadAlteration p cert is valid = valid.alteration
-part_of ClaimFails p cert is valid = valid.claim
-part_of ShapeDiffers p cert is valid = valid.shape
-part_of CutFails p cert is valid = valid.cuts
-part_of NumbersDisagree p cert is valid = valid.numbers
+part_of : (reason : Reason) (p : Poll) (cert : Cert) → IsValidCert p cert → Part reason p cert
+part_of HeadDiffers p cert valid = valid.head
+part_of ReportedDiffers p cert valid = valid.reported
+part_of BadAlteration p cert valid = valid.alteration
+part_of ClaimFails p cert valid = valid.claim
+part_of ShapeDiffers p cert valid = valid.shape
+part_of CutFails p cert valid = valid.cuts
+part_of NumbersDisagree p cert valid = valid.numbers
 
 -- ---- a part that fails doesn't hold, and fails in one line
 
@@ -102,7 +101,6 @@ abbrev pub Passing : Poll → Cert → Visit → Type 0
 Passing p cert visit = Passes (election_by p cert) (level_of (length p.ballots) cert.claim) visit.node visit.tree
 
 failing : (reason : Reason) (p : Poll) (cert : Cert) (line : ℕ) → Fails reason p cert line → Part reason p cert → ⊥
-failing NotBuilt p cert line fails part = fails.0 part
 failing HeadDiffers p cert line fails part = fails.0 part
 failing ReportedDiffers p cert line fails part = fails.0 part
 failing BadAlteration p cert line fails part = no_fault p cert.puts fails.0 part fails.1
@@ -112,7 +110,6 @@ failing CutFails p cert line fails part = not_all (Passing p cert) (cert_visits 
 failing NumbersDisagree p cert line fails part = fails.0 part
 
 one_line : (reason : Reason) (p : Poll) (cert : Cert) (line other : ℕ) → Fails reason p cert line → Fails reason p cert other → line ≡ other
-one_line NotBuilt p cert line other a b = omega (arith, a.1, b.1)
 one_line HeadDiffers p cert line other a b = omega (arith, a.1, b.1)
 one_line ReportedDiffers p cert line other a b = omega (arith, a.1, b.1)
 one_line BadAlteration p cert line other a b =
@@ -148,8 +145,8 @@ one_refusal p cert reason other line at first second = elim (cases_lt (reason_nu
 
 pub one_verdict : (p : Poll) (cert : Cert) (verdict other : Verdict) → Judges p cert verdict → Judges p cert other → verdict ≡ other
 one_verdict p cert Valid Valid first second = refl
-one_verdict p cert Valid (No reason line) first second = absurd (failing reason p cert line second.fails (part_of reason p cert first.0 first.1))
-one_verdict p cert (No reason line) Valid first second = absurd (failing reason p cert line first.fails (part_of reason p cert second.0 second.1))
+one_verdict p cert Valid (No reason line) first second = absurd (failing reason p cert line second.fails (part_of reason p cert first))
+one_verdict p cert (No reason line) Valid first second = absurd (failing reason p cert line first.fails (part_of reason p cert second))
 one_verdict p cert (No reason line) (No other at) first second = one_refusal p cert reason other line at first second
 
 pub judges_exactly : (p : Poll) (cert : Cert) (verdict other : Verdict) → Judges p cert verdict → (verdict ≡ other) ↔ Judges p cert other

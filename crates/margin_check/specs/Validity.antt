@@ -4,7 +4,7 @@ use Rattle.ballot_form.specs.Alterations.{IsAlteration, after}
 use Rattle.ballot_form.specs.Ballots.{Poll}
 use Rattle.alteration_model.specs.Faults.{pairs_of}
 use Rattle.goal_rows.specs.Elections.{Election}
-use Rattle.goal_rows.specs.Goals.{Holds, IsComplete, IsDecidedByPairs, root_goals}
+use Rattle.goal_rows.specs.Goals.{Holds, IsComplete, root_goals}
 use Rattle.goal_rows.specs.Nodes.{without_limits}
 use Rattle.goal_rows.specs.Outcomes.{IsReported}
 use Rattle.goal_rows.specs.declared.goals.Goal.{Goal}
@@ -13,7 +13,7 @@ use Rattle.cert_text.specs.declared.cert.Cert.{Cert}
 use Rattle.cert_text.specs.declared.cert.Claim.{Claim}
 use Rattle.cert_text.specs.declared.cert.Claim.TheVariants.{Margin, Fixed, Bounds}
 use Rattle.cert_text.specs.declared.cert.GoalText.{GoalText}
-use Rattle.cert_text.specs.declared.cert.GoalText.TheVariants.{Pair}
+use Rattle.cert_text.specs.declared.cert.GoalText.TheVariants.{Order, Pair, Cover}
 use Rattle.margin_check.specs.Proving.{IsShaped, Passes}
 use Rattle.margin_check.specs.Visits.{Visit, visits}
 
@@ -27,11 +27,12 @@ election_by p cert =
 abbrev pub HasSizes : Poll → Cert → Type 0
 HasSizes p cert = (cert.c ≡ p.c) × (cert.ballots ≡ length p.ballots)
 
--- the goal that a certificate names. An order and a cover are goals of other rules, which aren't there yet: they name
--- none
+-- the goal that a certificate names: an order is the suffix of all candidates
 abbrev pub named_goal : Option GoalText → Option Goal
+named_goal (Some (Order order)) = Some (goals.Suffix order)
 named_goal (Some (Pair gainer loser)) = Some (goals.Pair gainer loser)
-named_goal text = None
+named_goal (Some (Cover x)) = Some (goals.Cover x)
+named_goal None = None
 
 -- it names a complete goal, whose rows hold on the ballots
 abbrev pub IsMet : Election → Option GoalText → List (List ℕ) → Type 0
@@ -71,9 +72,8 @@ HasCuts p cert =
     All (λ visit. Passes (election_by p cert) (level_of (length p.ballots) cert.claim) visit.node visit.tree)
     (cert_visits p cert)
 
--- a certificate that is valid for a contest. The goals of the rules that aren't decided by pairs aren't there yet
+-- a certificate that is valid for a contest
 pub record IsValidCert (p : Poll) (cert : Cert) : Type 0 where
-  pub built : IsDecidedByPairs cert.rule cert.reported
   pub head : HasSizes p cert
   pub reported : IsReported cert.rule p cert.reported
   pub alteration : IsAlteration p (pairs_of cert.puts)

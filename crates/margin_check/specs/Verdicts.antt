@@ -3,8 +3,6 @@ use Rattle.std.specs.Prelude.{◌≡◌, ℕ, zero, suc, ◌+◌, ◌==◌, List
 use Rattle.std.specs.List.{before_first}
 use Rattle.ballot_form.specs.Alterations.{IsAlteration}
 use Rattle.ballot_form.specs.Ballots.{Poll}
-use Rattle.ballot_form.specs.declared.rule.Rule.{Rule}
-use Rattle.ballot_form.specs.declared.rule.Rule.TheVariants.{Condorcet, Irv}
 use Rattle.alteration_model.specs.Faults.{IsFirstFault, pairs_of}
 use Rattle.alteration_model.specs.declared.faults.AlterFault.{AlterFault}
 use Rattle.alteration_model.specs.declared.faults.AlterFault.TheVariants.{NumberRange, NotAscending, BadBallot, Memory}
@@ -13,7 +11,7 @@ use Rattle.cert_text.specs.declared.cert.Cert.{Cert}
 use Rattle.cert_text.specs.declared.cert.Claim.{Claim}
 use Rattle.cert_text.specs.declared.cert.Claim.TheVariants.{Margin, Fixed, Bounds}
 use Rattle.margin_check.specs.declared.verdict.Reason.{Reason}
-use Rattle.margin_check.specs.declared.verdict.Reason.TheVariants.{NotBuilt, HeadDiffers, ReportedDiffers, BadAlteration, ClaimFails, ShapeDiffers, CutFails, NumbersDisagree}
+use Rattle.margin_check.specs.declared.verdict.Reason.TheVariants.{HeadDiffers, ReportedDiffers, BadAlteration, ClaimFails, ShapeDiffers, CutFails, NumbersDisagree}
 use Rattle.margin_check.specs.declared.verdict.Verdict.{Verdict}
 use Rattle.margin_check.specs.declared.verdict.Verdict.TheVariants.{Valid, No}
 use Rattle.margin_check.specs.Proving.{IsShaped, Passes}
@@ -27,7 +25,6 @@ IsFirstWithout P (x ∷ xs) (suc place) = P x × IsFirstWithout P xs place
 
 -- the number of a reason
 abbrev pub reason_number : Reason → ℕ
-reason_number NotBuilt = 0
 reason_number HeadDiffers = 1
 reason_number ReportedDiffers = 2
 reason_number BadAlteration = 3
@@ -38,7 +35,6 @@ reason_number NumbersDisagree = 7
 
 -- the name of a reason
 abbrev pub reason_name : Reason → List ℕ
-reason_name NotBuilt = codes "NotBuilt"
 reason_name HeadDiffers = codes "HeadDiffers"
 reason_name ReportedDiffers = codes "ReportedDiffers"
 reason_name BadAlteration = codes "BadAlteration"
@@ -47,15 +43,8 @@ reason_name ShapeDiffers = codes "ShapeDiffers"
 reason_name CutFails = codes "CutFails"
 reason_name NumbersDisagree = codes "NumbersDisagree"
 
--- certificates of this rule are judged: so far those of plurality, Borda and D'Hondt
-abbrev pub IsJudged : Rule → Type 0
-IsJudged Irv = ⊥
-IsJudged Condorcet = ⊥
-IsJudged rule = Unit {0}
-
 -- the part of validity that fails by a reason
 abbrev pub Part : Reason → Poll → Cert → Type 0
-Part NotBuilt p cert = IsJudged cert.rule
 Part HeadDiffers p cert = HasSizes p cert
 Part ReportedDiffers p cert = IsReported cert.rule p cert.reported
 Part BadAlteration p cert = IsAlteration p (pairs_of cert.puts)
@@ -67,8 +56,7 @@ Part NumbersDisagree p cert = HasOrder cert.claim
 -- the reasons in the order in which their parts are judged
 abbrev pub reasons : List Reason
 reasons =
-    NotBuilt ∷ HeadDiffers ∷ ReportedDiffers ∷ BadAlteration ∷ ClaimFails ∷ ShapeDiffers ∷ CutFails
-    ∷ NumbersDisagree ∷ []
+    HeadDiffers ∷ ReportedDiffers ∷ BadAlteration ∷ ClaimFails ∷ ShapeDiffers ∷ CutFails ∷ NumbersDisagree ∷ []
 
 -- those that come before this one
 abbrev pub earlier : Reason → List Reason
@@ -99,7 +87,6 @@ node_line cert number = tree_line (length cert.puts) cert.claim + number
 
 -- a part of validity fails, in this line
 abbrev pub Fails : Reason → Poll → Cert → ℕ → Type 0
-Fails NotBuilt p cert line = (IsJudged cert.rule → ⊥) × (line ≡ 2)
 Fails HeadDiffers p cert line = (HasSizes p cert → ⊥) × (line ≡ 3)
 Fails ReportedDiffers p cert line = (IsReported cert.rule p cert.reported → ⊥) × (line ≡ 4)
 Fails BadAlteration p cert line =
@@ -122,5 +109,5 @@ pub record IsRefusal (p : Poll) (cert : Cert) (reason : Reason) (line : ℕ) : T
 
 -- the verdict on a certificate
 abbrev pub Judges : Poll → Cert → Verdict → Type 0
-Judges p cert Valid = IsJudged cert.rule × IsValidCert p cert
+Judges p cert Valid = IsValidCert p cert
 Judges p cert (No reason line) = IsRefusal p cert reason line

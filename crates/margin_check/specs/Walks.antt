@@ -1,5 +1,10 @@
 -- A walk over the nodes of a tree, up to the first one that fails.
 use Rattle.std.specs.Prelude.{◌≡◌, ℕ, ◌+◌, ◌≤◌, List, All, length}
+use Rattle.bound_tree.specs.Lines.{lines_of}
+use Rattle.bound_tree.specs.Nodes.{height}
+use Rattle.bound_tree.specs.Plain.{Plain}
+use Rattle.bound_tree.specs.declared.bound.TheConstants.{MOST_DEPTH}
+use Rattle.cert_text.specs.CertText.{LineFits}
 use Rattle.goal_rows.specs.Elections.{Election}
 use Rattle.margin_check.specs.declared.walk.Asked.{Asked}
 use Rattle.margin_check.specs.declared.walk.Asked.TheVariants.{Shape, Cuts}
@@ -13,6 +18,12 @@ use Rattle.margin_check.specs.Visits.{Visit}
 abbrev pub Gives : Election → Asked → Visit → Type 0
 Gives e Shape visit = IsShaped e visit.node visit.tree
 Gives e (Cuts t) visit = Passes e t visit.node visit.tree
+
+-- a tree whose topmost node may have so many limits: the values of its lines are within the limits of the grammar, and
+-- no way down is too long
+pub record FitsBelow (limits : ℕ) (tree : Plain) : Type 0 where
+  pub lines : All LineFits (lines_of tree)
+  pub depth : limits + height tree ≤ MOST_DEPTH
 
 -- what is known of a node before: where a cut is asked for, that it has its shape
 abbrev pub IsKnown : Election → Asked → Visit → Type 0

@@ -3,7 +3,7 @@ ghost use Rattle.std.specs.Prelude.{◌≡◌, ◌↔◌, ℕ, IfOk};
 ghost use Rattle.cert_text.specs.CertText.{IsPrintable};
 ghost use Rattle.margin_check.specs.Meanings.{ClaimIsTrue};
 ghost use Rattle.margin_check.specs.Validity.{IsValidCert};
-ghost use Rattle.margin_check.specs.Verdicts.{IsJudged, IsRefusal};
+ghost use Rattle.margin_check.specs.Verdicts.{IsRefusal};
 ghost use Rattle.margin_check.specs.declared.verdict.Reason.{Reason as AReason};
 ghost use Rattle.margin_check.specs.declared.verdict.Verdict.TheVariants.{No, Valid};
 
@@ -18,8 +18,7 @@ use std::alloc::Global;
 /// it claims is then so; otherwise the first part that fails is told with its line, from 1.
 pub fn check(alloc: Global, contest: &Contest, cert: &Cert) -> Result<Verdict, Memory>
     requires printable { IsPrintable cert.now }
-    ensures valid { IfOk result (λ verdict.
-        (verdict ≡ Valid) ↔ (IsJudged cert.now.rule × IsValidCert contest.now.roll cert.now)) }
+    ensures valid { IfOk result (λ verdict. (verdict ≡ Valid) ↔ IsValidCert contest.now.roll cert.now) }
     ensures refused { IfOk result (λ verdict. (reason : AReason) (line : ℕ) →
         (verdict ≡ No reason line) ↔ IsRefusal contest.now.roll cert.now reason line) }
     ensures claim { IfOk result (λ verdict. verdict ≡ Valid → ClaimIsTrue contest.now.roll cert.now) }

@@ -1,14 +1,18 @@
 // Whether what a certificate claims holds after its replacements.
-ghost use Rattle.std.specs.Prelude.{◌≡◌, ◌<◌, ◌+◌, ◌≤◌, ◌↔◌, IsTrue, length};
+ghost use Rattle.std.specs.Prelude.{◌≡◌, ◌<◌, ◌+◌, ◌≤◌, ◌↔◌, IfOk, IsTrue, length};
 ghost use Rattle.ballot_form.specs.declared.limits.TheConstants.{MOST_BALLOTS};
 ghost use Rattle.goal_rows.specs.Goals.{Holds, IsComplete};
 ghost use Rattle.goal_rows.specs.Races.{election_of};
+ghost use Rattle.goal_rows.specs.declared.goals.Goal.TheVariants.{Suffix};
 ghost use Rattle.margin_check.specs.Validity.{ClaimHolds, HasOrder, HasSizes, IsMet, level_of};
 
-use ballot_form::Roll;
+use ballot_form::{Cand, Ranking, Roll};
 use cert_text::{Cert, Claim, GoalText};
 use goal_rows::parts::Race;
 use goal_rows::{Goal, MOST_ROWS, is_complete, rows_hold};
+use irv_count::is_order;
+use mov_base::Memory;
+use std::alloc::Global;
 
 /// Whether the certificate has the numbers of candidates and of ballots.
 pub(crate) fn has_sizes(roll: &Roll, cert: &Cert) -> bool
@@ -20,37 +24,68 @@ pub(crate) fn has_sizes(roll: &Roll, cert: &Cert) -> bool
 /// Whether the claim's goal is complete and holds on the ballots after the replacements; nothing is asked where it is
 /// that nothing turns the outcome.
 pub(crate) fn claim_holds(
+    alloc: Global,
     race: &Race<'_>,
     altered: &Roll,
     claim: Claim,
     text: &Option<GoalText>,
-) -> bool
+) -> Result<bool, Memory>
     requires same_sizes { altered.now.c ≡ race.now.roll.now.c }
     requires same_length { length altered.now.ballots ≡ length race.now.roll.now.ballots }
-    ensures { IsTrue result ↔ ClaimHolds (election_of race.now) claim text.now altered.now.ballots }
+    ensures { IfOk result (λ holds.
+        IsTrue holds ↔ ClaimHolds (election_of race.now) claim text.now altered.now.ballots) }
 {
     match claim {
-        Claim::Margin(_) => is_met(race, altered, text),
-        Claim::Fixed => true,
-        Claim::Bounds { .. } => is_met(race, altered, text),
+        Claim::Margin(_) => is_met(alloc, race, altered, text),
+        Claim::Fixed => Ok(true),
+        Claim::Bounds { .. } => is_met(alloc, race, altered, text),
     }
 }
 
 /// Whether there is a goal, and it is complete and holds on the ballots.
-#[tactic(auto, using(crate::proofs::Claims::met_pair))]
-fn is_met(race: &Race<'_>, altered: &Roll, text: &Option<GoalText>) -> bool
+#[tactic(auto, using(crate::proofs::Claims::met_pair, crate::proofs::Claims::met_cover, crate::proofs::Claims::met_order))]
+fn is_met(
+    alloc: Global,
+    race: &Race<'_>,
+    altered: &Roll,
+    text: &Option<GoalText>,
+) -> Result<bool, Memory>
     requires same_sizes { altered.now.c ≡ race.now.roll.now.c }
     requires same_length { length altered.now.ballots ≡ length race.now.roll.now.ballots }
-    ensures { IsTrue result ↔ IsMet (election_of race.now) text.now altered.now.ballots }
+    ensures { IfOk result (λ met. IsTrue met ↔ IsMet (election_of race.now) text.now altered.now.ballots) }
 {
     match text {
-        None => false,
-        Some(GoalText::Order(_)) => false,
+        None => Ok(false),
+        Some(GoalText::Order(order)) => order_is_met(alloc, race, altered, order.as_slice()),
         Some(GoalText::Pair(gainer, loser)) => {
-            goal_is_met(race, altered, &Goal::Pair(*gainer, *loser))
+            let goal = Goal::Pair(*gainer, *loser);
+            Ok(goal_is_met(race, altered, &goal))
         }
-        Some(GoalText::Cover(_)) => false,
+        Some(GoalText::Cover(x)) => {
+            let goal = Goal::Cover(*x);
+            Ok(goal_is_met(race, altered, &goal))
+        }
     }
+}
+
+/// Whether the suffix of these candidates is complete and holds on the ballots.
+fn order_is_met(
+    alloc: Global,
+    race: &Race<'_>,
+    altered: &Roll,
+    order: &[Cand],
+) -> Result<bool, Memory>
+    requires same_sizes { altered.now.c ≡ race.now.roll.now.c }
+    requires same_length { length altered.now.ballots ≡ length race.now.roll.now.ballots }
+    ensures { IfOk result (λ met. IsTrue met
+        ↔ (IsComplete (election_of race.now) (Suffix order.now)
+        × Holds (election_of race.now) (Suffix order.now) altered.now.ballots)) }
+{
+    if !is_order(order, race.roll.candidates()) {
+        return Ok(false);
+    }
+    let goal = Goal::Suffix(Ranking::from_slice(alloc, order)?);
+    Ok(goal_is_met(race, altered, &goal))
 }
 
 /// Whether the goal is complete and holds on the ballots.

@@ -7,9 +7,9 @@ ghost use Rattle.goal_rows.specs.Nodes.{without_limits};
 ghost use Rattle.goal_rows.specs.Races.{IsRace, election_of};
 ghost use Rattle.goal_rows.specs.declared.goals.Goal.TheVariants.{Root};
 ghost use Rattle.cert_text.specs.CertText.{IsPrintable};
-ghost use Rattle.margin_check.specs.Verdicts.{IsJudged, Judges, place_of, tree_line};
+ghost use Rattle.margin_check.specs.Verdicts.{Judges, place_of, tree_line};
 ghost use Rattle.margin_check.specs.Visits.{visits};
-ghost use Rattle.margin_check.specs.Walks.{EndsAt, Gives, IsKnown, IsWithin};
+ghost use Rattle.margin_check.specs.Walks.{EndsAt, FitsBelow, Gives, IsKnown, IsWithin};
 ghost use Rattle.margin_check.specs.declared.verdict.Reason.TheVariants as reasons;
 ghost use Rattle.margin_check.specs.declared.verdict.Verdict.TheVariants.{No};
 
@@ -17,7 +17,7 @@ use crate::claim::{claim_holds, has_order, has_sizes, level};
 use crate::verdict::{Reason, Verdict};
 use crate::walk::{Asked, End, walk};
 use alteration_model::{AlterFault, apply, check_alteration};
-use ballot_form::{Roll, Rule};
+use ballot_form::Roll;
 use bound_tree::BoundTree;
 use cert_text::{Cert, Claim};
 use dual_bound::Scratch;
@@ -32,9 +32,6 @@ pub(crate) fn judge(alloc: Global, roll: &Roll, cert: &Cert) -> Result<Verdict, 
     requires printable { IsPrintable cert.now }
     ensures { IfOk result (Judges roll.now cert.now) }
 {
-    if !is_judged(cert.rule) {
-        return Ok(refused(Reason::NotBuilt, 2));
-    }
     if !has_sizes(roll, cert) {
         return Ok(refused(Reason::HeadDiffers, 3));
     }
@@ -47,7 +44,8 @@ pub(crate) fn judge(alloc: Global, roll: &Roll, cert: &Cert) -> Result<Verdict, 
         Err(fault) => return bad_alteration(fault),
     };
     let altered = apply(alloc, roll, &changes)?;
-    if !claim_holds(&race, &altered, cert.claim, &cert.goal) {
+    let holds = claim_holds(alloc, &race, &altered, cert.claim, &cert.goal)?;
+    if !holds {
         return Ok(refused(Reason::ClaimFails, 6));
     }
     let mut scratch = Scratch::for_classes(alloc, race.kinds.len())?;
@@ -62,19 +60,6 @@ pub(crate) fn judge(alloc: Global, roll: &Roll, cert: &Cert) -> Result<Verdict, 
         return Ok(refused(Reason::NumbersDisagree, 5));
     }
     Ok(Verdict::Valid)
-}
-
-/// Whether certificates of this rule are judged.
-fn is_judged(rule: Rule) -> bool
-    ensures { IsTrue result ↔ IsJudged rule }
-{
-    match rule {
-        Rule::Plurality => true,
-        Rule::Borda => true,
-        Rule::Dhondt(_) => true,
-        Rule::Condorcet => false,
-        Rule::Irv => false,
-    }
 }
 
 /// The refusal of a certificate with this fault of a replacement.
@@ -101,6 +86,7 @@ fn walk_tree(
     scratch: &mut Scratch,
 ) -> Result<End, Memory>
     requires race { IsRace race.now }
+    requires fits { FitsBelow 0 tree.now }
     requires known { All (IsKnown (election_of race.now) asked)
         (visits (election_of race.now) (without_limits Root) tree.now) }
     requires room { length race.now.kinds ≤ scratch.old }

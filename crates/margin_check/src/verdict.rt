@@ -5,8 +5,6 @@ ghost use Rattle.margin_check.specs.Verdicts.{reason_name, reason_number};
 /// Why a certificate isn't valid: the first part that fails, in this order.
 #[derive(Clone, Copy, Debug, PartialEq, Eq)]
 pub enum Reason {
-    /// Its rule can't be judged yet.
-    NotBuilt,
     /// It isn't of this number of candidates and of ballots.
     HeadDiffers,
     /// Another outcome is reported.
@@ -29,7 +27,6 @@ impl Reason {
         ensures { result ≡ reason_number self }
     {
         match self {
-            Reason::NotBuilt => 0,
             Reason::HeadDiffers => 1,
             Reason::ReportedDiffers => 2,
             Reason::BadAlteration => 3,
@@ -45,7 +42,6 @@ impl Reason {
         ensures { result.now ≡ reason_name self }
     {
         match self {
-            Reason::NotBuilt => "NotBuilt",
             Reason::HeadDiffers => "HeadDiffers",
             Reason::ReportedDiffers => "ReportedDiffers",
             Reason::BadAlteration => "BadAlteration",

@@ -1,15 +1,16 @@
 // Walks over the nodes of a tree.
-ghost use Rattle.std.specs.Prelude.{◌≡◌, ◌+◌, ◌++◌, ◌<◌, ◌≤◌, ◌^◌, ◌↔◌, [], All, IfOk, IsTrue, Some, length, option_map, map, sum_by};
+ghost use Rattle.std.specs.Prelude.{◌≡◌, ◌+◌, ◌++◌, ◌<◌, ◌≤◌, ◌^◌, ◌↔◌, ℕ, List, [], All, IfOk, IsTrue, Some, length, option_map, map, sum_by};
 ghost use Rattle.bound_tree.specs.Nodes.{size};
 ghost use Rattle.bound_tree.specs.Plain.{kids_of, plain_of};
 ghost use Rattle.goal_rows.specs.Elections.{Election};
 ghost use Rattle.goal_rows.specs.Goals.{IsReached, cover_of};
 ghost use Rattle.goal_rows.specs.Nodes.{AreLimits, IsFeatureOf, node_of, with_limit};
 ghost use Rattle.goal_rows.specs.Races.{IsGroundIn, IsRace, election_of};
+ghost use Rattle.goal_rows.specs.declared.goals.Goal.TheVariants.{Cover, Suffix};
 ghost use Rattle.dual_bound.specs.CutTest.{Cuts};
 ghost use Rattle.margin_check.specs.Proving.{IsShaped, number_count};
 ghost use Rattle.margin_check.specs.Visits.{high_half, low_half, visit_of, visits, visits_among};
-ghost use Rattle.margin_check.specs.Walks.{EndsAt, Gives, IsKnown};
+ghost use Rattle.margin_check.specs.Walks.{EndsAt, FitsBelow, Gives, IsKnown};
 
 use bound_tree::{Multipliers, Tree};
 use dual_bound::{Scratch, cuts};
@@ -40,7 +41,7 @@ pub(crate) enum End {
 /// Walks over the nodes of a tree, whose topmost node has this number, the goal of this ground, and these limits. The
 /// limits are the same afterwards, unless memory ran out.
 #[cycle(walk)]
-#[tactic(auto, using(bound_tree::proofs::Shapes::size_Split, crate::proofs::Nodes::no_branch, crate::proofs::Nodes::walk_stops, crate::proofs::Nodes::walk_over_cut))]
+#[tactic(auto, using(bound_tree::proofs::Shapes::size_Split, crate::proofs::Nodes::walk_stops, crate::proofs::Nodes::walk_over_cut))]
 pub(crate) fn walk(
     alloc: Global,
     race: &Race<'_>,
@@ -54,6 +55,7 @@ pub(crate) fn walk(
     requires race { IsRace race.now }
     requires start { IsGroundIn (election_of race.now) start.now }
     requires limits { AreLimits (election_of race.now) (node_of start.now limits.old.items) }
+    requires fits { FitsBelow (length limits.old.items) (plain_of tree.now) }
     requires few { number + size (plain_of tree.now) < 2 ^ 32 }
     requires known { All (IsKnown (election_of race.now) asked)
         (visits (election_of race.now) (node_of start.now limits.old.items) (plain_of tree.now)) }
@@ -113,6 +115,7 @@ fn walk_among(
     requires same { length goals.now ≡ length kids.now }
     requires limits { limits.old.items ≡ [] }
     requires reached { All (IsReached (election_of race.now)) goals.now }
+    requires fits { All (λ kid. FitsBelow 0 (plain_of kid)) kids.now }
     requires few { number + sum_by (λ kid. size (plain_of kid)) kids.now < 2 ^ 32 }
     requires known { All (IsKnown (election_of race.now) asked)
         (visits_among (election_of race.now) goals.now (kids_of (map plain_of kids.now))) }
@@ -152,6 +155,8 @@ fn walk_halves(
     requires start { IsGroundIn (election_of race.now) start.now }
     requires low { AreLimits (election_of race.now) (low_half (node_of start.now limits.old.items) feature value) }
     requires high { AreLimits (election_of race.now) (high_half (node_of start.now limits.old.items) feature value) }
+    requires low_fits { FitsBelow (length limits.old.items + 1) (plain_of low.now) }
+    requires high_fits { FitsBelow (length limits.old.items + 1) (plain_of high.now) }
     requires few { number + size (plain_of low.now) + size (plain_of high.now) < 2 ^ 32 }
     requires low_known { All (IsKnown (election_of race.now) asked) (visits (election_of race.now)
         (low_half (node_of start.now limits.old.items) feature value) (plain_of low.now)) }
@@ -201,6 +206,7 @@ fn walk_half(
     requires race { IsRace race.now }
     requires start { IsGroundIn (election_of race.now) start.now }
     requires limits { AreLimits (election_of race.now) (with_limit (node_of start.now limits.old.items) limit) }
+    requires fits { FitsBelow (length limits.old.items + 1) (plain_of half.now) }
     requires few { number + size (plain_of half.now) < 2 ^ 32 }
     requires known { All (IsKnown (election_of race.now) asked)
         (visits (election_of race.now) (with_limit (node_of start.now limits.old.items) limit) (plain_of half.now)) }
@@ -274,7 +280,7 @@ fn is_shaped(race: &Race<'_>, start: &Ground, limits: &[Limit], tree: &Tree) -> 
 {
     match tree {
         Tree::Split(kids) => limits.is_empty() && has_kids(race, &start.goal, kids.len()),
-        Tree::Branch(feature, _, _, _) => is_feature(&start.goal, *feature),
+        Tree::Branch(feature, _, _, _) => is_feature(race, &start.goal, *feature),
         Tree::Cut(multipliers) => {
             multipliers.len() >= limits.len()
                 && multipliers.len() - limits.len() == row_count(race, &start.goal)
@@ -293,12 +299,41 @@ fn has_kids(race: &Race<'_>, goal: &Goal, count: usize) -> bool
 }
 
 /// Whether the feature belongs to the goal.
-fn is_feature(goal: &Goal, feature: Feature) -> bool
-    ensures { (e : Election) → IsTrue result ↔ IsFeatureOf e goal.now feature }
+fn is_feature(race: &Race<'_>, goal: &Goal, feature: Feature) -> bool
+    ensures { IsTrue result ↔ IsFeatureOf (election_of race.now) goal.now feature }
 {
-    let _ = feature;
     match goal {
         Goal::Root => false,
+        Goal::Suffix(suffix) => is_in_suffix(suffix.as_slice().len(), feature),
         Goal::Pair(_, _) => false,
+        Goal::Cover(_) => is_in_cover(race.roll.candidates(), feature),
     }
+}
+
+/// Whether the feature is a key or an arc under a suffix of so many places.
+fn is_in_suffix(places: usize, feature: Feature) -> bool
+    ensures { (e : Election) (suffix : List ℕ) → length suffix ≡ places →
+        (IsTrue result ↔ IsFeatureOf e (Suffix suffix) feature) }
+{
+    match feature {
+        Feature::From(key) => is_key(key, places),
+        Feature::Arc(u, x) => u < x && usize::from(x) <= places,
+    }
+}
+
+/// Whether the feature is a key under a cover, of so many candidates.
+fn is_in_cover(candidates: u8, feature: Feature) -> bool
+    ensures { (e : Election) (x : ℕ) → e.poll.c ≡ candidates → (IsTrue result ↔ IsFeatureOf e (Cover x) feature) }
+{
+    match feature {
+        Feature::From(key) => is_key(key, usize::from(candidates)),
+        Feature::Arc(_, _) => false,
+    }
+}
+
+/// Whether the key has no bit but the first so many.
+fn is_key(key: u64, bits: usize) -> bool
+    ensures { IsTrue result ↔ (key < 2 ^ bits) }
+{
+    bits >= 64 || key >> bits == 0
 }

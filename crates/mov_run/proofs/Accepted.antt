@@ -36,7 +36,7 @@ by_verdict : (old new : Outside) (words : List (List ℕ)) (file name text : Lis
 by_verdict old new words file name text k cert Valid job contest begun read verdict is took =
     let same : text ≡ valid_text cert = text_is text (record { ends = Done; text = valid_text cert }) is in
     let valid = verdict.valid.0 refl in
-    (k, cert, record { file = file; job = job; contest = contest; begun = begun }, read, valid.0, valid.1, verdict.claim refl, subst (λ t. Took old.out.taken new.out.taken t) same took)
+    (k, cert, record { file = file; job = job; contest = contest; begun = begun }, read, valid, verdict.claim refl, subst (λ t. Took old.out.taken new.out.taken t) same took)
 by_verdict old new words file name text k cert (No reason line) job contest begun read verdict is took =
     absurd (not_refused (ends_is text (record { ends = Refused; text = refused_text reason line }) is))
 

@@ -7,7 +7,7 @@ use Rattle.cert_text.specs.CertReading.{cert_at}
 use Rattle.cert_text.specs.declared.cert.Cert.{Cert}
 use Rattle.cert_text.specs.declared.fault.CertFault.{CertFault}
 use Rattle.margin_check.specs.Validity.{IsValidCert}
-use Rattle.margin_check.specs.Verdicts.{IsJudged, IsRefusal}
+use Rattle.margin_check.specs.Verdicts.{IsRefusal}
 use Rattle.margin_check.specs.declared.verdict.Reason.{Reason}
 use Rattle.margin_check.specs.declared.verdict.Verdict.{Verdict}
 use Rattle.margin_check.specs.declared.verdict.Verdict.TheVariants.{Valid, No}
@@ -69,8 +69,7 @@ verdict_on old new s name k cert (inr (inr good)) told untroubled =
 
 says_valid : (old new : Outside) (s : Status) (k : NamedPoll) (cert : Cert) → IsVerdict k cert Valid → Goes old new s (output_of cert Valid) → IsUntroubled old new s → SaysValid old new s k cert
 says_valid old new s k cert by goes untroubled = record {
-  known = (by.valid.0 refl).0;
-  valid = (by.valid.0 refl).1;
+  valid = by.valid.0 refl;
   claim = by.claim refl;
   done = done_by old new s (valid_text cert) goes untroubled;
 }
@@ -91,11 +90,11 @@ judged old new s name k cert at told untroubled =
     let found = verdict_on old new s name k cert at told untroubled in
     said old new s k cert found.0 found.1 found.2 untroubled
 
-is_valid : (old new : Outside) (s : Status) (name : List ℕ) (k : NamedPoll) (cert : Cert) → AtCheck old new s name k → IsToldCert old name cert → IsUntroubled old new s → IsJudged cert.rule
+is_valid : (old new : Outside) (s : Status) (name : List ℕ) (k : NamedPoll) (cert : Cert) → AtCheck old new s name k → IsToldCert old name cert → IsUntroubled old new s
     → IsValidCert k.poll cert → SaysValid old new s k cert
-is_valid old new s name k cert at told untroubled known valid =
+is_valid old new s name k cert at told untroubled valid =
     let found = verdict_on old new s name k cert at told untroubled in
-    let is : found.0 ≡ Valid = found.1.valid.1 (known, valid) in
+    let is : found.0 ≡ Valid = found.1.valid.1 valid in
     says_valid old new s k cert (subst (λ v. IsVerdict k cert v) is found.1) (subst (λ v. Goes old new s (output_of cert v)) is found.2) untroubled
 
 is_refused : (old new : Outside) (s : Status) (name : List ℕ) (k : NamedPoll) (cert : Cert) (reason : Reason) (line : ℕ) → AtCheck old new s name k → IsToldCert old name cert
@@ -161,7 +160,7 @@ accepted_cert old new s name k cert (inr (inr good)) quiet told = verdict_end ol
 pub writes_verdict : (old new : Outside) (words : List (List ℕ)) (s : Status) → Ran old new words s → WritesVerdict old new words s
 writes_verdict old new words s ran = record {
   judged = λ name k cert over told untroubled. judged old new s name k cert (at_check old new words s name k ran over) told untroubled;
-  valid = λ name k cert over told untroubled known valid. is_valid old new s name k cert (at_check old new words s name k ran over) told untroubled known valid;
+  valid = λ name k cert over told untroubled valid. is_valid old new s name k cert (at_check old new words s name k ran over) told untroubled valid;
   refused = λ name k cert over told untroubled reason line refusal.
       is_refused old new s name k cert reason line (at_check old new words s name k ran over) told untroubled refusal;
   faulty = λ name bytes k fault over tells short read. faulty_cert old new s name bytes k fault (at_check old new words s name k ran over) over.reads tells short read;

@@ -1,11 +1,11 @@
--- The rules that `margin` knows are those whose certificates are judged.
+-- The rules that `margin` knows are those whose margins are computed.
 use Rattle.std.proofs.Common.{◌≡◌, Option, Some, None}
 use Rattle.ballot_form.specs.Rules.{name_of_rule}
 use Rattle.ballot_form.specs.declared.rule.Rule.{Rule}
 use Rattle.ballot_form.specs.declared.rule.Rule.TheVariants.{Plurality, Borda, Condorcet, Dhondt, Irv}
 use Rattle.ballot_form.specs.declared.rule.RuleName.{RuleName}
 use Rattle.ballot_form.specs.declared.rule.RuleName.TheVariants as named
-use Rattle.margin_check.specs.Verdicts.{IsJudged}
+use Rattle.margin_solve.specs.Certificates.{IsSolved}
 use Rattle.mov_run.specs.Words.{known_name}
 
 not_condorcet : (name : Option RuleName) → known_name name ≡ Some named.Condorcet → ⊥
@@ -24,9 +24,9 @@ not_irv (Some named.Condorcet) is = cc (is)
 not_irv (Some named.Dhondt) is = cc (is)
 not_irv (Some named.Irv) is = cc (is)
 
-pub judged_name : (name : Option RuleName) (rule : Rule) → known_name name ≡ Some (name_of_rule rule) → IsJudged rule
-judged_name name Plurality is = tt
-judged_name name Borda is = tt
-judged_name name Condorcet is = not_condorcet name is
-judged_name name (Dhondt seats) is = tt
-judged_name name Irv is = not_irv name is
+pub solved_name : (name : Option RuleName) (rule : Rule) → known_name name ≡ Some (name_of_rule rule) → IsSolved rule
+solved_name name Plurality is = tt
+solved_name name Borda is = tt
+solved_name name Condorcet is = not_condorcet name is
+solved_name name (Dhondt seats) is = tt
+solved_name name Irv is = not_irv name is

@@ -5,7 +5,7 @@ use Rattle.ballot_csv.specs.BallotFile.{NamedPoll}
 use Rattle.ballot_csv.specs.declared.fault.BallotFault.{BallotFault}
 use Rattle.margin_check.specs.Meanings.{ClaimIsTrue}
 use Rattle.margin_check.specs.Validity.{IsValidCert}
-use Rattle.margin_check.specs.Verdicts.{IsJudged, IsRefusal}
+use Rattle.margin_check.specs.Verdicts.{IsRefusal}
 use Rattle.ballot_csv.specs.declared.limits.TheConstants.{LONGEST_FILE}
 use Rattle.cert_text.specs.declared.limits.TheConstants.{LONGEST_TEXT}
 use Rattle.mov_run.specs.Words.{IsNoCommand, file_count, meaning, BallotFile}
@@ -52,7 +52,7 @@ ReadCause old new words = (name : List ℕ) × IsUnread (source_of old new) name
 -- why a check ends well: it wrote whole that the certificate is valid, and it is, and its claim is true
 abbrev pub ValidCause : Outside → Outside → List (List ℕ) → List ℕ → Type 0
 ValidCause old new words name = (k : NamedPoll) × (cert : Cert)
-    × WentOn old new words name k × IsCertFile (source_of old new) name cert × IsJudged cert.rule
+    × WentOn old new words name k × IsCertFile (source_of old new) name cert
     × IsValidCert k.poll cert × ClaimIsTrue k.poll cert
     × Took old.out.taken new.out.taken (valid_text cert)
 

@@ -8,7 +8,7 @@ use Rattle.margin_solve.specs.Certificates.{IsCertOf}
 use Rattle.margin_solve.specs.declared.limits.TheConstants.{DEFAULT_BUDGET}
 use Rattle.margin_check.specs.Meanings.{ClaimIsTrue}
 use Rattle.margin_check.specs.Validity.{IsValidCert}
-use Rattle.margin_check.specs.Verdicts.{IsJudged, IsRefusal}
+use Rattle.margin_check.specs.Verdicts.{IsRefusal}
 use Rattle.mov_run.specs.Tally.{IsTally}
 use Rattle.mov_run.specs.Status.{status_after}
 use Rattle.mov_run.specs.Verdicts.{verdict_text}
@@ -33,7 +33,7 @@ Answer = Result Output RunFault
 -- the verdict on a certificate: that it is valid, and then its claim is true, or the first part of validity that fails,
 -- with its line
 pub record IsVerdict (k : NamedPoll) (cert : Cert) (verdict : Verdict) : Type 0 where
-  pub valid : (verdict ≡ Valid) ↔ (IsJudged cert.rule × IsValidCert k.poll cert)
+  pub valid : (verdict ≡ Valid) ↔ IsValidCert k.poll cert
   pub refused : (reason : Reason) (line : ℕ) → (verdict ≡ No reason line) ↔ IsRefusal k.poll cert reason line
   pub claim : verdict ≡ Valid → ClaimIsTrue k.poll cert
 

@@ -11,7 +11,7 @@ use Rattle.margin_solve.specs.Certificates.{IsCertOf}
 use Rattle.margin_solve.specs.declared.limits.TheConstants.{DEFAULT_BUDGET}
 use Rattle.margin_check.specs.Meanings.{ClaimIsTrue}
 use Rattle.margin_check.specs.Validity.{IsValidCert}
-use Rattle.margin_check.specs.Verdicts.{IsJudged, IsRefusal}
+use Rattle.margin_check.specs.Verdicts.{IsRefusal}
 use Rattle.ballot_csv.specs.declared.limits.TheConstants.{LONGEST_FILE}
 use Rattle.cert_text.specs.declared.limits.TheConstants.{LONGEST_TEXT}
 use Rattle.mov_run.specs.Tally.{IsTally}
@@ -39,7 +39,6 @@ pub record ChecksOver (old new : Outside) (words : List (List ℕ)) (name : List
 
 -- a valid certificate, whose claim is true, is said to be valid
 pub record SaysValid (old new : Outside) (s : Status) (k : NamedPoll) (cert : Cert) : Type 0 where
-  pub known : IsJudged cert.rule
   pub valid : IsValidCert k.poll cert
   pub claim : ClaimIsTrue k.poll cert
   pub done : IsDone old new s (valid_text cert)
@@ -57,10 +56,10 @@ pub record WritesVerdict (old new : Outside) (words : List (List ℕ)) (s : Stat
   pub judged : (name : List ℕ) (k : NamedPoll) (cert : Cert) → ChecksOver old new words name k →
       IsToldCert old name cert → IsUntroubled old new s →
       SaysValid old new s k cert ⊎ SaysRefused old new s k cert
-  -- a valid one is said to be valid, as far as its rule is known
+  -- a valid one is said to be valid
   pub valid : (name : List ℕ) (k : NamedPoll) (cert : Cert) → ChecksOver old new words name k →
       IsToldCert old name cert → IsUntroubled old new s →
-      IsJudged cert.rule → IsValidCert k.poll cert → SaysValid old new s k cert
+      IsValidCert k.poll cert → SaysValid old new s k cert
   -- one that isn't is refused for the first reason, with its line
   pub refused : (name : List ℕ) (k : NamedPoll) (cert : Cert) → ChecksOver old new words name k →
       IsToldCert old name cert → IsUntroubled old new s →

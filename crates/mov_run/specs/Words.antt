@@ -6,7 +6,7 @@ use Rattle.ballot_form.specs.declared.rule.Rule.{Rule}
 use Rattle.ballot_form.specs.declared.rule.Rule.TheVariants.{Plurality, Borda, Condorcet, Dhondt, Irv}
 use Rattle.ballot_form.specs.declared.rule.RuleName.{RuleName}
 use Rattle.ballot_form.specs.declared.rule.RuleName.TheVariants as named
-use Rattle.margin_check.specs.Verdicts.{IsJudged}
+use Rattle.margin_solve.specs.Certificates.{IsSolved}
 use Rattle.text_lines.specs.Numbers.{numeral_of}
 use Rattle.text_lines.specs.declared.numbers.Numeral.{Numeral}
 use Rattle.text_lines.specs.declared.numbers.Numeral.TheVariants.{Number}
@@ -106,10 +106,10 @@ IsNoCommand m = IsErrOf m NoCommand ⊎ IsErrOf m UnknownCommand
 abbrev pub Reads : List (List ℕ) → Result Job WordFault → Type 0
 Reads words r = (r ≡ meaning words) ⊎ ((r ≡ Err Memory) × (IsNoCommand (meaning words) → ⊥))
 
--- the rule has a lawful number of seats, and certificates of a margin's rule are judged
+-- the rule has a lawful number of seats, and a margin's rule is one whose margins are computed
 abbrev pub IsLawful : Job → Type 0
 IsLawful (Tally rule file) = IsRule rule
-IsLawful (Margin rule file) = IsRule rule × IsJudged rule
+IsLawful (Margin rule file) = IsRule rule × IsSolved rule
 IsLawful job = Unit {0}
 
 -- the ballot file that the job reads

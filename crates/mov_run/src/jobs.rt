@@ -98,7 +98,7 @@ fn tally_job(alloc: Global, words: &[String]) -> Result<Job, WordFault>
 }
 
 /// The job of the words after `margin`.
-#[tactic(auto, using(crate::proofs::Known::judged_name))]
+#[tactic(auto, using(crate::proofs::Known::solved_name))]
 fn margin_job(alloc: Global, words: &[String]) -> Result<Job, WordFault>
     ensures reads { Reads (codes "margin" ∷ map string_bytes words.now) result }
     ensures lawful { IfOk result IsLawful }

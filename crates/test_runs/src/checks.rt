@@ -94,7 +94,7 @@ fn verdicts_on_certificates(rt: HostRuntime) -> Result<(), Fail> {
         (
             b"movcert 1\nrule irv\nsize 2 7\nreported 0\nmargin 2\ngoal order 0 1\nput 1 1\nput 2 1\nsplit 1\ncut 1\n",
             2,
-            b"REFUSED 0 NotBuilt line 2\n",
+            b"REFUSED 5 ShapeDiffers line 10\n",
         ),
         (
             b"movcert 1\nrule plurality\nsize 2 7\nreported 0\nbounds 2 2 depth\ngoal pair 1 0\nput 1 1\nput 2 1\nsplit 1\ncut 1\n",
@@ -107,6 +107,172 @@ fn verdicts_on_certificates(rt: HostRuntime) -> Result<(), Fail> {
         expect_run(&rt, rt.alloc(), &["check", "F", "C"], FIVE_TWO, cert, ends)?;
     }
     Ok(())
+}
+
+/// A runoff of three; its last round alone would say that two replacements are needed.
+const RUNOFF: &[u8] = b"ballots,A,B,C\n5,A\n4,B,C\n3,C,A\n";
+
+/// Three who are each preferred to the next.
+const CYCLE: &[u8] = b"ballots,A,B,C\n1,A,B,C\n1,B,C,A\n1,C,A,B\n";
+
+/// The head of the runoff's certificates up to the claim.
+const RUNOFF_HEAD: &str = "movcert 1\nrule irv\nsize 3 12\nreported 0\n";
+
+/// What follows it in the certificate of its margin: the goal with the replacement, and the tree.
+const RUNOFF_TURN: &str = "goal order 0 2 1\nput 1 2\n";
+
+const RUNOFF_TREE: &str =
+    "split 2\nsplit 2\ncut 1\nsplit 1\ncut 1 1 0\nsplit 2\nsplit 1\ncut 0 1 0\ncut 1\n";
+
+/// The head of the cycle's certificates, with the goal and the replacement.
+const CYCLE_HEAD: &str =
+    "movcert 1\nrule condorcet\nsize 3 3\nreported none\nmargin 1\ngoal cover 0\nput 2 0\n";
+
+/// What `check` says of a certificate that is joined of parts.
+fn says(
+    rt: &impl Abort,
+    alloc: Global,
+    ballots: &[u8],
+    parts: [&str; 4],
+    ends: (u8, &str, &str),
+) -> Result<(), Fail> {
+    let mut cert = String::new(alloc);
+    for part in parts {
+        cert.push_str(part)?;
+    }
+    let ends = (ends.0, ends.1.as_bytes(), ends.2.as_bytes());
+    expect_run(
+        rt,
+        alloc,
+        &["check", "F", "C"],
+        ballots,
+        cert.as_bytes(),
+        ends,
+    )
+}
+
+#[test]
+fn verdicts_on_runoffs(rt: HostRuntime) -> Result<(), Fail> {
+    let table = [
+        (
+            "margin 1\n",
+            RUNOFF_TURN,
+            RUNOFF_TREE,
+            "VALID\nrule irv\nmargin 1\n",
+        ),
+        (
+            "margin 1\n",
+            "goal order 1 0 2\nput 6 2\n",
+            "split 2\nsplit 2\ncut 2\nsplit 1\ncut 1 0 0\nsplit 2\nsplit 1\ncut 0 5 0\ncut 1\n",
+            "VALID\nrule irv\nmargin 1\n",
+        ),
+        (
+            "bounds 0 2 budget 1\n",
+            "goal order 0 2 1\nput 1 1\nput 2 1\n",
+            "cut\n",
+            "VALID\nrule irv\nbounds 0 2 budget 1\n",
+        ),
+        (
+            "margin 1\n",
+            RUNOFF_TURN,
+            "split 2\nsplit 2\ncut 1\nsplit 1\ncut 1 1 0\nsplit 2\nsplit 1\ncut 0 0 0\ncut 1\n",
+            "REFUSED 6 CutFails line 15\n",
+        ),
+        (
+            "margin 1\n",
+            "goal order 0 2 1\nput 13 2\n",
+            RUNOFF_TREE,
+            "REFUSED 3 BadAlteration line 7\n",
+        ),
+        (
+            "margin 1\n",
+            "goal order 0 2 1\nput 1 0\n",
+            RUNOFF_TREE,
+            "REFUSED 4 ClaimFails line 6\n",
+        ),
+        (
+            "bounds 1 1 budget 5\n",
+            RUNOFF_TURN,
+            RUNOFF_TREE,
+            "REFUSED 7 NumbersDisagree line 5\n",
+        ),
+    ];
+    for (claim, turn, tree, out) in table {
+        let status = if out.starts_with("VALID") { 0 } else { 2 };
+        says(
+            &rt,
+            rt.alloc(),
+            RUNOFF,
+            [RUNOFF_HEAD, claim, turn, tree],
+            (status, out, ""),
+        )?;
+    }
+    Ok(())
+}
+
+#[test]
+fn verdicts_on_cycles(rt: HostRuntime) -> Result<(), Fail> {
+    let table = [
+        (
+            "split 3\ncut 0 1\ncut 1 0\ncut 0 1\n",
+            "VALID\nrule condorcet\nmargin 1\n",
+        ),
+        (
+            "split 3\nbranch from 7 0\ncut 0 1 0\ncut 0 0 1\ncut 1 0\ncut 0 1\n",
+            "VALID\nrule condorcet\nmargin 1\n",
+        ),
+        (
+            "split 2\ncut 0 1\ncut 1 0\n",
+            "REFUSED 5 ShapeDiffers line 8\n",
+        ),
+        (
+            "split 3\nbranch arc 0 1 0\ncut 0 1 0\ncut 0 0 1\ncut 1 0\ncut 0 1\n",
+            "REFUSED 5 ShapeDiffers line 9\n",
+        ),
+    ];
+    for (tree, out) in table {
+        let status = if out.starts_with("VALID") { 0 } else { 2 };
+        says(
+            &rt,
+            rt.alloc(),
+            CYCLE,
+            [CYCLE_HEAD, tree, "", ""],
+            (status, out, ""),
+        )?;
+    }
+    Ok(())
+}
+
+#[test]
+fn heads_and_ends_of_a_runoff(rt: HostRuntime) -> Result<(), Fail> {
+    let rest = [RUNOFF_TURN, RUNOFF_TREE];
+    for (head, out) in [
+        (
+            "movcert 1\nrule irv\nsize 3 13\nreported 0\nmargin 1\n",
+            "REFUSED 1 HeadDiffers line 3\n",
+        ),
+        (
+            "movcert 1\nrule irv\nsize 3 12\nreported 1\nmargin 1\n",
+            "REFUSED 2 ReportedDiffers line 4\n",
+        ),
+    ] {
+        says(
+            &rt,
+            rt.alloc(),
+            RUNOFF,
+            [head, rest[0], rest[1], ""],
+            (2, out, ""),
+        )?;
+    }
+    let short = "split 2\nsplit 2\ncut 1\nsplit 1\ncut 1 1 0\nsplit 2\nsplit 1\ncut 0 1 0\n";
+    let ends = (5, "", "mov: certificate: line 16: tree ends\n");
+    says(
+        &rt,
+        rt.alloc(),
+        RUNOFF,
+        [RUNOFF_HEAD, "margin 1\n", RUNOFF_TURN, short],
+        ends,
+    )
 }
 
 #[test]

@@ -14,5 +14,5 @@ pub returns-clause-claim : goal.returns-clause-claim
 returns-clause-claim c = if_ok c.judge.result
     (λ verdict is e.
     let valid = (judges_exactly c.args.contest.now.roll c.args.cert.now verdict Valid is).0 e in
-    claim_is_true c.args.contest.now.roll c.args.cert.now c.candidates.ensures.poll c.requires.printable valid.1)
+    claim_is_true c.args.contest.now.roll c.args.cert.now c.candidates.ensures.poll c.requires.printable valid)
     c.judge.ensures

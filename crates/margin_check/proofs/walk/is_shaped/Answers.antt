@@ -12,4 +12,4 @@ pub returns-in-Branch : goal.returns-in-Branch
 returns-in-Branch c =
     let e = election_of c.args.race.now in
     let shape = shaped_Branch e (node_of c.args.start.now c.args.limits.now) c.args.tree.now c.in-Branch.feature c.in-Branch.field-1 c.in-Branch.field-2 c.in-Branch.field-3 c.in-Branch.is in
-    (λ h. shape.1 ((c.is_feature.ensures e).0 h), λ h. (c.is_feature.ensures e).1 (shape.0 h))
+    (λ h. shape.1 (c.is_feature.ensures.0 h), λ h. c.is_feature.ensures.1 (shape.0 h))
