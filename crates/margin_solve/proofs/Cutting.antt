@@ -1,39 +1,64 @@
 -- Where the cheapest replacements of the root's pairs are so many, a cut with the multiplier 1 for each pair shows it.
-use Rattle.std.proofs.Common.{ℕ, zero, suc, List, [], ◌∷◌, All, ◌≡◌, ◌<◌, ◌≤◌, ◌+◌, ◌-◌, ◌*◌, ◌∙◌, length, map, ap, refl, inl, inr, arith}
+use Rattle.std.proofs.Common.{ℕ, zero, suc, List, [], ◌∷◌, All, ◌≡◌, ◌<◌, ◌≤◌, ◌+◌, ◌-◌, ◌∙◌, length, map, min, ap, sym, subst, refl, inl, inr, arith}
 use Rattle.std.specs.Prelude.{ℤ, pos, ◌+ℤ◌, ◌-ℤ◌, ◌*ℤ◌, ◌<ℤ◌, slice_index_or}
 use Rattle.std.proofs.lemmas.Int.{ints}
 use Rattle.std.proofs.lemmas.List.{get_or_default}
 use Rattle.std.proofs.lemmas.Bool.{cases_lt}
 use Rattle.mov_base.specs.Sums.{add_up, most, sum_z}
 use Rattle.mov_base.proofs.Signed.{sum_z-difference}
+use Rattle.ballot_form.specs.Ballots.{IsValidBallot, Poll}
 use Rattle.bound_tree.specs.Growth.{cuts_of}
 use Rattle.goal_rows.specs.Elections.{Election}
 use Rattle.goal_rows.specs.Goals.{IsElection, IsRootOf, gainer_points, loser_points, pair_weight}
-use Rattle.goal_rows.specs.Nodes.{without_limits}
-use Rattle.goal_rows.specs.Races.{key_of, keys_of}
+use Rattle.goal_rows.specs.Nodes.{Kept, kept_row, without_limits}
+use Rattle.goal_rows.specs.Pairs.{gain_of}
 use Rattle.goal_rows.specs.declared.goals.Goal.{Goal}
 use Rattle.goal_rows.specs.declared.goals.Goal.TheVariants.{Root, Pair}
-use Rattle.goal_rows.proofs.PairPoints.{ArePairPoints, pair_points}
-use Rattle.dual_bound.specs.CutTest.{Cuts}
-use Rattle.dual_bound.proofs.Exact.{one_pair}
-use Rattle.margin_check.specs.Proving.{ProveAll, Proves}
+use Rattle.goal_rows.proofs.PairPoints.{pair_points}
+use Rattle.dual_bound.specs.CutTest.{AreGains, Cuts, CutsKept, IsGain}
+use Rattle.margin_check.specs.Proving.{ProveAll, Proves, number_count}
 use Rattle.margin_solve.specs.Certificates.{tree_for}
-use Rattle.witness_build.specs.Witnesses.{IsStartWitness, PairReaches, pair_deficit, pair_gains}
+use Rattle.witness_build.specs.Witnesses.{IsPair, IsStartWitness, PairReaches, pair_deficit, pair_gains}
 
--- the gains by keys are those of the pair
-same_gain : (top plus minus : ℕ) → plus ≤ top → minus ≤ 1024 → 1 * ((top + 1024) - ((plus + 1024) - minus)) ≡ (top + minus) - plus
-same_gain top plus minus high low = omega (arith, high, low)
+-- ---- the gains of the cut test are those of the pair
 
-same_gains : (e : Election) (g l : ℕ) → ArePairPoints e g l → (ballots : List (List ℕ))
-    → map (λ key. 1 * ((gainer_points e g l (g ∷ []) + 1024) - key)) (map (key_of e (Pair g l)) ballots)
-    ≡ map (λ ballot. (gainer_points e g l (g ∷ []) + loser_points e g l ballot) - gainer_points e g l ballot) ballots
-same_gains e g l are [] = refl
-same_gains e g l are (ballot ∷ ballots) =
-    let top = gainer_points e g l (g ∷ []) in
-    let one = same_gain top (gainer_points e g l ballot) (loser_points e g l ballot) (are.high ballot) (are.low ballot) in
-    let rest = same_gains e g l are ballots in
-    ap (λ n. n ∷ map (λ key. 1 * ((top + 1024) - key)) (map (key_of e (Pair g l)) ballots)) one
-    ∙ ap (λ ns. ((top + loser_points e g l ballot) - gainer_points e g l ballot) ∷ ns) rest
+-- the row of a pair, with the multiplier 1
+abbrev one_row_of : (List ℕ → ℕ) → (List ℕ → ℕ) → List (List ℕ) → List (ℕ × Kept)
+one_row_of plus minus start = (1, kept_row start (λ ballot. pos (plus ballot) -ℤ pos (minus ballot))) ∷ []
+
+-- no ballot counts more for the gainer than the gainer alone, which counts nothing for the loser
+record AreBest (p : Poll) (top g : ℕ) (plus minus : List ℕ → ℕ) : Type 0 where
+  pub high : (ballot : List ℕ) → plus ballot ≤ top
+  pub alone : plus (g ∷ []) ≡ top
+  pub none : minus (g ∷ []) ≡ 0
+  pub valid : IsValidBallot p.c (g ∷ [])
+
+gain_is : (p : Poll) (top g : ℕ) (plus minus : List ℕ → ℕ) (start : List (List ℕ)) (ballot : List ℕ) → AreBest p top g plus minus
+    → IsGain p (one_row_of plus minus start) ballot (gain_of top plus minus ballot)
+gain_is p top g plus minus start ballot best =
+    let high = best.high ballot in
+    let alone = best.alone in
+    let none = best.none in
+    let is : pos ((top + minus ballot) - plus ballot) ≡ (pos top +ℤ pos (minus ballot)) -ℤ pos (plus ballot) = omega (arith, ints) in
+    record {
+      above = λ new ok. let more = best.high new in omega (arith, ints);
+      reached = inr (g ∷ [], best.valid, omega (arith, ints));
+    }
+
+gains_are : (p : Poll) (top g : ℕ) (plus minus : List ℕ → ℕ) (start ballots : List (List ℕ)) → AreBest p top g plus minus
+    → AreGains p (one_row_of plus minus start) ballots (map (gain_of top plus minus) ballots)
+gains_are p top g plus minus start [] best = tt
+gains_are p top g plus minus start (ballot ∷ ballots) best =
+    (gain_is p top g plus minus start ballot best, gains_are p top g plus minus start ballots best)
+
+alone_valid : (c g : ℕ) → g < c → IsValidBallot c (g ∷ [])
+alone_valid c g lt = record { below = below; distinct = λ i j d less within. absurd (omega arith) }
+  where
+    below : All (λ x. x < c) (g ∷ [])
+    below zero d within = lt
+    below (suc i) d within = absurd (omega arith)
+
+-- ---- what isn't reached is cut
 
 below_zero : (value : ℤ) (plus minus gained : ℕ) → value ≡ pos plus -ℤ pos minus → gained < minus - plus
     → ((pos 1 *ℤ value) +ℤ pos gained) <ℤ pos 0
@@ -43,48 +68,55 @@ below_zero value plus minus gained is less = omega (arith, ints, is, less)
 pub short_is_cut : (e : Election) (g l k : ℕ) → IsElection e → IsRootOf e (Pair g l) → suc k ≤ length e.poll.ballots + 1
     → (PairReaches e g l k → ⊥) → Cuts e (without_limits (Pair g l)) (1 ∷ []) (suc k)
 short_is_cut e g l k is root within short =
-    let are = pair_points e g l is root in
+    let points = pair_points e g l is root in
     let top = gainer_points e g l (g ∷ []) in
-    let gains = map (λ key. 1 * ((top + 1024) - key)) (keys_of e (Pair g l)) in
-    let same : gains ≡ pair_gains e g l = same_gains e g l are e.poll.ballots in
+    let plus = gainer_points e g l in
+    let minus = loser_points e g l in
+    let weighed = one_row_of plus minus e.poll.ballots in
+    let best : AreBest e.poll top g plus minus = record { high = points.high; alone = refl; none = points.none; valid = alone_valid e.poll.c g root.1 } in
+    let gains = gains_are e.poll top g plus minus e.poll.ballots e.poll.ballots best in
     let less : most k (pair_gains e g l) < pair_deficit e g l = (elim (cases_lt (most k (pair_gains e g l)) (pair_deficit e g l)) [
       | inl lt ↦ lt
       | inr ge ↦ absurd (short ge)
     ]) in
-    let weight = sum_z-difference (gainer_points e g l) (loser_points e g l) e.poll.ballots in
+    let weight = sum_z-difference plus minus e.poll.ballots in
     let step : suc k - 1 ≡ k = omega arith in
-    let here : most (suc k - 1) gains ≡ most k (pair_gains e g l) = ap (λ n. most n gains) step ∙ ap (most k) same in
-    (one_pair e g l 1 (suc k) are root.1 within).0
-    (inr (below_zero (sum_z (pair_weight e g l) e.poll.ballots) (add_up (gainer_points e g l) e.poll.ballots) (add_up (loser_points e g l) e.poll.ballots)
-    (most (suc k - 1) gains) weight (omega (arith, less, here))))
+    let here : most (suc k - 1) (pair_gains e g l) ≡ most k (pair_gains e g l) = ap (λ n. most n (pair_gains e g l)) step in
+    let low = below_zero (sum_z (pair_weight e g l) e.poll.ballots) (add_up plus e.poll.ballots) (add_up minus e.poll.ballots)
+    (most (suc k - 1) (pair_gains e g l)) weight (omega (arith, less, here)) in
+    let at : min (suc k) (length e.poll.ballots + 1) ≡ suc k = omega arith in
+    subst (CutsKept e.poll weighed) (sym at) (inr (pair_gains e g l, gains, omega (arith, ints, low)))
 
 -- each root pair is
 abbrev AreShort : Election → ℕ → List Goal → Type 0
-AreShort e k goals = All (λ goal. IsRootOf e goal × Cuts e (without_limits goal) (1 ∷ []) k) goals
+AreShort e k goals = All (λ goal. IsPair goal × Cuts e (without_limits goal) (1 ∷ []) k) goals
+
+-- a pair has one row
+one_row : (e : Election) (goal : Goal) → IsPair goal → 1 ≡ number_count e (without_limits goal)
+one_row e goal (g, l, pair) = subst (λ at. 1 ≡ number_count e (without_limits at)) (sym pair) refl
 
 prove_all : (e : Election) (k : ℕ) (goals : List Goal) → AreShort e k goals → ProveAll e k goals (cuts_of (map (λ goal. 1 ∷ []) goals))
 prove_all e k [] short = tt
-prove_all e k (Root ∷ goals) short = absurd (short 0 Root (omega arith)).0
-prove_all e k (Pair g l ∷ goals) short = (
-  (refl, (short 0 Root (omega arith)).1),
-  prove_all e k goals (λ i d lt. short (suc i) d (omega arith)),
-)
+prove_all e k (goal ∷ goals) short =
+    let first = short 0 Root (omega arith) in
+    ((one_row e goal first.0, first.1), prove_all e k goals (λ i d lt. short (suc i) d (omega arith)))
 
-pub proved_by : (e : Election) (goal : Goal) (changes : List (ℕ × List ℕ)) (k : ℕ) → IsElection e → IsStartWitness e goal changes
+pub proved_by : (e : Election) (goal : Goal) (changes : List (ℕ × List ℕ)) (k : ℕ) → IsElection e → All IsPair e.roots → IsStartWitness e goal changes
     → k ≡ length changes → length changes ≤ length e.poll.ballots → Proves e k (without_limits Root) (tree_for e.roots k)
-proved_by e goal changes zero is start count few = (refl, inl (omega arith))
-proved_by e goal changes (suc k) is start count few = (refl, (e.roots, refl, prove_all e (suc k) e.roots short))
+proved_by e goal changes zero is pairs start count few = (refl, inl (omega arith))
+proved_by e goal changes (suc k) is pairs start count few = (refl, (e.roots, refl, prove_all e (suc k) e.roots short))
   where
-    cut_at : (at : ℕ) → at < length e.roots → (root : Goal) → slice_index_or e.roots at Root ≡ root → IsRootOf e root
+    cut_at : (at : ℕ) → at < length e.roots → (root : Goal) → slice_index_or e.roots at Root ≡ root → IsPair root → IsRootOf e root
         → Cuts e (without_limits root) (1 ∷ []) (suc k)
-    cut_at at lt Root here has = absurd has
-    cut_at at lt (Pair g l) here has = short_is_cut e g l k is has (omega (arith, few, count))
-        (λ reached. omega (arith, count, start.fewest at g l k (lt, here) reached))
+    cut_at at lt root here (g, l, pair) has =
+        subst (λ at. Cuts e (without_limits at) (1 ∷ []) (suc k)) (sym pair)
+        (short_is_cut e g l k is (subst (IsRootOf e) pair has) (omega (arith, few, count))
+        (λ reached. omega (arith, count, start.fewest at g l k (lt, here ∙ pair) reached)))
 
     at_place : (at : ℕ) (d : Goal) → at < length e.roots → slice_index_or e.roots at Root ≡ slice_index_or e.roots at d
     at_place at d lt = get_or_default e.roots at Root d lt
 
     short : AreShort e (suc k) e.roots
     short at d lt =
-        let has = is.roots.each at d lt in
-        (has, cut_at at lt (slice_index_or e.roots at d) (at_place at d lt) has)
+        let pair = pairs at d lt in
+        (pair, cut_at at lt (slice_index_or e.roots at d) (at_place at d lt) pair (is.roots.each at d lt))

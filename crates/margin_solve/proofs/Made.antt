@@ -25,15 +25,15 @@ use Rattle.goal_rows.specs.declared.goals.Goal.TheVariants as goals
 use Rattle.goal_rows.specs.declared.parts.Race.{Race}
 use Rattle.margin_check.specs.Proving.{Proves}
 use Rattle.margin_check.specs.Validity.{ClaimHolds, HasOrder, IsValidCert, election_by, level_of, named_goal}
-use Rattle.margin_check.specs.Verdicts.{IsJudged}
-use Rattle.margin_check.proofs.Judging.{judged_pairs, same_election}
+use Rattle.margin_check.proofs.Judging.{same_election}
 use Rattle.margin_check.proofs.Meaning.{claim_is_true}
 use Rattle.margin_check.proofs.Trees.{cuts_of, shape_of}
-use Rattle.margin_solve.specs.Certificates.{IsCertOf, IsFixedCert, IsMarginCert, split_for, tree_for}
+use Rattle.margin_solve.specs.Certificates.{IsCertOf, IsFixedCert, IsMarginCert, IsSolved, split_for, tree_for}
 use Rattle.margin_solve.proofs.Cutting.{proved_by}
 use Rattle.margin_solve.proofs.Printing.{HeadIs, TreeFits, pair_body, printable, puts_few, split_fits, tree_fits}
-use Rattle.margin_solve.proofs.Trees.{alone_without_goals, roots_few}
+use Rattle.margin_solve.proofs.Trees.{alone_without_goals, roots_few, solved_by_pairs}
 use Rattle.witness_build.specs.Witnesses.{IsMetBy, IsStartWitness}
+use Rattle.witness_build.proofs.RootPairs.{own_are_pairs}
 
 -- a root goal is one that the election may have
 root_at : (e : Election) (goal : Goal) (place : ℕ) → IsElection e → place < length e.roots → slice_index_or e.roots place goals.Root ≡ goal → IsRootOf e goal
@@ -50,7 +50,7 @@ record HasHead (race : Race) (cert : Cert) : Type 0 where
   pub reported : cert.reported ≡ race.reported
 
 module _ (race : Race) (cert : Cert) (is : IsRace race) (own : race.roots ≡ root_goals race.rule race.roll.now.c race.reported)
-    (judged : IsJudged race.rule) (has : HasHead race cert) where
+    (solved : IsSolved race.rule) (has : HasHead race cert) where
   abbrev p : Poll
   p = race.roll.now
 
@@ -64,14 +64,14 @@ module _ (race : Race) (cert : Cert) (is : IsRace race) (own : race.roots ≡ ro
   election : IsElection e
   election = subst IsElection same is.election
 
-  judged_cert : IsJudged cert.rule
-  judged_cert = subst IsJudged (sym has.rule) judged
+  solved_cert : IsSolved cert.rule
+  solved_cert = subst IsSolved (sym has.rule) solved
 
   head : HeadIs p cert
   head = record {
     poll = election.poll;
     lawful = election.lawful;
-    judged = judged_cert;
+    solved = solved_cert;
     candidates = has.candidates;
     ballots = has.ballots;
     reported = election.reported;
@@ -94,7 +94,6 @@ module _ (race : Race) (cert : Cert) (is : IsRace race) (own : race.roots ≡ ro
   valid_by : IsAlteration p (pairs_of cert.puts) → ClaimHolds e cert.claim cert.goal (after p (pairs_of cert.puts)).ballots
       → Proves e (level_of (length p.ballots) cert.claim) (without_limits goals.Root) cert.tree → HasOrder cert.claim → IsValidCert p cert
   valid_by ok holds proved order = record {
-    built = judged_pairs cert.rule cert.reported judged_cert;
     head = (has.candidates, has.ballots);
     reported = election.reported;
     alteration = ok;
@@ -107,7 +106,7 @@ module _ (race : Race) (cert : Cert) (is : IsRace race) (own : race.roots ≡ ro
   fixed_made : p.c ≡ 1 → cert.claim ≡ Fixed → cert.goal ≡ Nothing → cert.puts ≡ [] → cert.tree ≡ split_for []
       → IsCertOf race.rule 145 p cert × IsPrintable cert
   fixed_made alone claim goal puts tree =
-      let none : e.roots ≡ [] = alone_without_goals cert.rule p cert.reported judged_cert election.reported alone in
+      let none : e.roots ≡ [] = alone_without_goals cert.rule p cert.reported solved_cert election.reported alone in
       let fits : TreeFits cert.tree = subst TreeFits (sym tree) (split_fits [] (omega arith)) in
       let proved : Proves e (length p.ballots + 1) (without_limits goals.Root) (split_for []) = (refl, ([], ap Some none, tt)) in
       let text = printable p cert head (subst ClaimFits (sym claim) tt)
@@ -141,9 +140,10 @@ module _ (race : Race) (cert : Cert) (is : IsRace race) (own : race.roots ≡ ro
       let fits : TreeFits cert.tree = subst TreeFits (sym grown) (tree_fits e.roots (length cert.puts) few) in
       let short = puts_few p cert.puts election.poll meets.alteration in
       let stands : IsRootOf e (goals.Pair g l) = root_at e (goals.Pair g l) starts.place election starts.within starts.stands in
+      let all_pairs = own_are_pairs cert.rule p.c cert.reported e.roots (solved_by_pairs cert.rule cert.reported solved_cert) refl in
       let count : length pairs ≡ length cert.puts = length-map cert.puts (λ (one : Put). (one.number, one.ballot)) in
       let proved : Proves e (length cert.puts) (without_limits goals.Root) (tree_for e.roots (length cert.puts)) =
-      proved_by e (goals.Pair g l) pairs (length cert.puts) election starts (sym count) (omega (arith, short, count)) in
+      proved_by e (goals.Pair g l) pairs (length cert.puts) election all_pairs starts (sym count) (omega (arith, short, count)) in
       let text = printable p cert head (subst ClaimFits (sym claims) (omega (arith, short, election.poll.few)))
       (subst (λ c. BodyFits p.c c cert.goal cert.puts) (sym claims)
       (subst (λ o. BodyFits p.c (Margin (length cert.puts)) o cert.puts) (sym named)
@@ -168,7 +168,7 @@ module _ (race : Race) (cert : Cert) (is : IsRace race) (own : race.roots ≡ ro
 
 -- ---- the same of the very certificates that are made
 
-module _ (race : Race) (is : IsRace race) (own : race.roots ≡ root_goals race.rule race.roll.now.c race.reported) (judged : IsJudged race.rule)
+module _ (race : Race) (is : IsRace race) (own : race.roots ≡ root_goals race.rule race.roll.now.c race.reported) (solved : IsSolved race.rule)
     (c ballots : ℕ) (reported : Outcome) (puts : List Put) (tree : Plain) (candidates : c ≡ race.roll.now.c)
     (many : ballots ≡ length race.roll.now.ballots) (same_outcome : reported ≡ race.reported) where
   abbrev of_claim : Claim → Option GoalText → Cert
@@ -179,11 +179,11 @@ module _ (race : Race) (is : IsRace race) (own : race.roots ≡ root_goals race.
 
   pub fixed_found : race.roll.now.c ≡ 1 → puts ≡ [] → tree ≡ split_for []
       → IsCertOf race.rule 145 race.roll.now (of_claim Fixed Nothing) × IsPrintable (of_claim Fixed Nothing)
-  fixed_found alone none grown = fixed_made race (of_claim Fixed Nothing) is own judged (head_of Fixed Nothing) alone refl refl none grown
+  fixed_found alone none grown = fixed_made race (of_claim Fixed Nothing) is own solved (head_of Fixed Nothing) alone refl refl none grown
 
   pub margin_found : (g l k : ℕ) (goal : Goal) (changes : List (ℕ × List ℕ)) → 2 ≤ race.roll.now.c → IsStartWitness (election_of race) goal changes
       → IsMetBy (election_of race) goal changes → goal ≡ goals.Pair g l → k ≡ length changes → pairs_of puts ≡ changes → tree ≡ tree_for race.roots k
       → IsCertOf race.rule 145 race.roll.now (of_claim (Margin k) (Some (Pair g l))) × IsPrintable (of_claim (Margin k) (Some (Pair g l)))
   margin_found g l k goal changes others start met pair count made grown =
-      margin_made race (of_claim (Margin k) (Some (Pair g l))) is own judged (head_of (Margin k) (Some (Pair g l))) g l goal changes others start met pair
+      margin_made race (of_claim (Margin k) (Some (Pair g l))) is own solved (head_of (Margin k) (Some (Pair g l))) g l goal changes others start met pair
       (ap Margin count) refl made (grown ∙ ap (tree_for race.roots) count)

@@ -33,8 +33,7 @@ use Rattle.dhondt_seats.specs.Seats.{seats_of, votes_of}
 use Rattle.goal_rows.specs.Outcomes.{IsReported}
 use Rattle.goal_rows.specs.declared.goals.Goal.{Goal}
 use Rattle.goal_rows.proofs.PairPoints.{few_seats}
-use Rattle.margin_check.specs.Verdicts.{IsJudged}
-use Rattle.margin_solve.specs.Certificates.{split_for, tree_for}
+use Rattle.margin_solve.specs.Certificates.{IsSolved, split_for, tree_for}
 
 -- ---- built one by one
 
@@ -69,10 +68,10 @@ all_made f most [] few k d lt = absurd (omega arith)
 all_made f most (x ∷ xs) few zero d lt = few x
 all_made f most (x ∷ xs) few (suc k) d lt = all_made f most xs few k d (omega arith)
 
-outcome_fits : (rule : Rule) (p : Poll) (o : Outcome) → IsJudged rule → IsRule rule → IsPoll p → IsReported rule p o → OutcomeFits rule p.c o
-outcome_fits Plurality p (Winner x) judged lawful poll is = omega (arith, is.greatest.stands, poll.most)
-outcome_fits Borda p (Winner x) judged lawful poll is = omega (arith, is.greatest.stands, poll.most)
-outcome_fits (Dhondt s) p (Seats shares) judged lawful poll is =
+outcome_fits : (rule : Rule) (p : Poll) (o : Outcome) → IsSolved rule → IsRule rule → IsPoll p → IsReported rule p o → OutcomeFits rule p.c o
+outcome_fits Plurality p (Winner x) solved lawful poll is = omega (arith, is.greatest.stands, poll.most)
+outcome_fits Borda p (Winner x) solved lawful poll is = omega (arith, is.greatest.stands, poll.most)
+outcome_fits (Dhondt s) p (Seats shares) solved lawful poll is =
     let votes = votes_of p in
     let each = all_made (seats_of votes s) MOST_SEATS (range_with_len 0 (length votes)) (λ a. omega (arith, few_seats votes s a, lawful.1)) in
     let many = length-map (range_with_len 0 (length votes)) (seats_of votes s) in
@@ -80,14 +79,14 @@ outcome_fits (Dhondt s) p (Seats shares) judged lawful poll is =
     let made = length-map (range_with_len 0 p.c) (λ a. first_count p.ballots a) in
     let voters = length-range_with_len 0 p.c in
     rw is (omega (arith, many, one_each, made, voters), each)
-outcome_fits Plurality p NoWinner judged lawful poll is = absurd is
-outcome_fits Plurality p (Seats shares) judged lawful poll is = absurd is
-outcome_fits Borda p NoWinner judged lawful poll is = absurd is
-outcome_fits Borda p (Seats shares) judged lawful poll is = absurd is
-outcome_fits (Dhondt s) p (Winner x) judged lawful poll is = absurd is
-outcome_fits (Dhondt s) p NoWinner judged lawful poll is = absurd is
-outcome_fits Condorcet p o judged lawful poll is = absurd judged
-outcome_fits Irv p o judged lawful poll is = absurd judged
+outcome_fits Plurality p NoWinner solved lawful poll is = absurd is
+outcome_fits Plurality p (Seats shares) solved lawful poll is = absurd is
+outcome_fits Borda p NoWinner solved lawful poll is = absurd is
+outcome_fits Borda p (Seats shares) solved lawful poll is = absurd is
+outcome_fits (Dhondt s) p (Winner x) solved lawful poll is = absurd is
+outcome_fits (Dhondt s) p NoWinner solved lawful poll is = absurd is
+outcome_fits Condorcet p o solved lawful poll is = absurd solved
+outcome_fits Irv p o solved lawful poll is = absurd solved
 
 -- ---- the replacements
 
@@ -158,7 +157,7 @@ tree_fits roots (suc k) few = split_fits roots few
 pub record HeadIs (p : Poll) (cert : Cert) : Type 0 where
   pub poll : IsPoll p
   pub lawful : IsRule cert.rule
-  pub judged : IsJudged cert.rule
+  pub solved : IsSolved cert.rule
   pub candidates : cert.c ≡ p.c
   pub ballots : cert.ballots ≡ length p.ballots
   pub reported : IsReported cert.rule p cert.reported
@@ -168,7 +167,7 @@ pub printable : (p : Poll) (cert : Cert) → HeadIs p cert → ClaimFits cert.cl
 printable p cert head claim body tree = record {
   rule = head.lawful;
   sizes = (omega (arith, head.poll.some, head.candidates), omega (arith, head.poll.most, head.candidates), omega (arith, head.poll.few, head.ballots));
-  reported = subst (λ c. OutcomeFits cert.rule c cert.reported) (sym head.candidates) (outcome_fits cert.rule p cert.reported head.judged head.lawful head.poll head.reported);
+  reported = subst (λ c. OutcomeFits cert.rule c cert.reported) (sym head.candidates) (outcome_fits cert.rule p cert.reported head.solved head.lawful head.poll head.reported);
   claim = claim;
   body = subst (λ c. BodyFits c cert.claim cert.goal cert.puts) (sym head.candidates) body;
   lines = tree.lines;

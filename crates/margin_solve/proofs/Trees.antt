@@ -1,7 +1,10 @@
 -- A cut for each root goal.
 use Rattle.std.proofs.Common.{ℕ, zero, suc, List, [], ◌∷◌, ◌≡◌, ◌<◌, ◌≤◌, ◌*◌, ◌∙◌, length, map, replicate, Result, Ok, Err, IfOk, ap, sym, refl, arith}
 use Rattle.std.proofs.Math.Nat.{mul-le-mul_left}
+use Rattle.std.proofs.lemmas.List.{length-map}
+use Rattle.std.proofs.lemmas.List.FromFn.{length-range_with_len}
 use Rattle.std.specs.Prelude.{◌==◌, not}
+use Rattle.std.specs.List.{range_with_len}
 use Rattle.ballot_form.specs.Ballots.{IsPoll, Poll}
 use Rattle.ballot_form.specs.declared.outcome.Outcome.{Outcome}
 use Rattle.ballot_form.specs.declared.outcome.Outcome.TheVariants.{Winner, NoWinner, Seats}
@@ -9,13 +12,22 @@ use Rattle.ballot_form.specs.declared.rule.Rule.{Rule}
 use Rattle.ballot_form.specs.declared.rule.Rule.TheVariants.{Plurality, Borda, Condorcet, Dhondt, Irv}
 use Rattle.bound_tree.specs.Growth.{cuts_of}
 use Rattle.bound_tree.specs.Plain.{Plain, Split}
-use Rattle.goal_rows.specs.Goals.{is_seated, root_goals, those}
+use Rattle.goal_rows.specs.Goals.{IsDecidedByPairs, is_seated, root_goals}
 use Rattle.goal_rows.specs.Outcomes.{IsReported}
+use Rattle.goal_rows.specs.Suffixes.{those}
 use Rattle.goal_rows.specs.declared.goals.Goal.{Goal}
-use Rattle.goal_rows.specs.declared.goals.Goal.TheVariants.{Pair}
+use Rattle.goal_rows.specs.declared.goals.Goal.TheVariants.{Suffix, Pair, Cover}
 use Rattle.goal_rows.proofs.Lists.{lists_few, made_few}
-use Rattle.margin_check.specs.Verdicts.{IsJudged}
-use Rattle.margin_solve.specs.Certificates.{split_for, tree_for}
+use Rattle.margin_solve.specs.Certificates.{IsSolved, split_for, tree_for}
+
+-- ---- pairs decide where margins are computed
+
+pub solved_by_pairs : (rule : Rule) (o : Outcome) → IsSolved rule → IsDecidedByPairs rule o
+solved_by_pairs Plurality o solved = tt
+solved_by_pairs Borda o solved = tt
+solved_by_pairs Condorcet o solved = absurd solved
+solved_by_pairs (Dhondt s) o solved = tt
+solved_by_pairs Irv o solved = absurd solved
 
 -- ---- there are few root goals
 
@@ -32,12 +44,14 @@ roots_by Condorcet c (Winner x) few = square c _ few (made_few (λ j. Pair j x) 
 roots_by (Dhondt s) c (Seats shares) few =
     let many = lists_few (λ g. map (λ l. Pair g l) (those c (is_seated shares g))) c c (λ g. made_few (λ l. Pair g l) c (is_seated shares g)) in
     omega (arith, many, product c few)
-roots_by Irv c o few = omega arith
+roots_by Irv c (Winner x) few = square c _ few (made_few (λ y. Suffix (y ∷ [])) c (λ y. not (y == x)))
+roots_by Irv c NoWinner few = omega arith
+roots_by Irv c (Seats shares) few = omega arith
 roots_by Plurality c NoWinner few = omega arith
 roots_by Plurality c (Seats shares) few = omega arith
 roots_by Borda c NoWinner few = omega arith
 roots_by Borda c (Seats shares) few = omega arith
-roots_by Condorcet c NoWinner few = omega arith
+roots_by Condorcet c NoWinner few = square c _ few (omega (arith, length-map (range_with_len 0 c) Cover, length-range_with_len 0 c))
 roots_by Condorcet c (Seats shares) few = omega arith
 roots_by (Dhondt s) c (Winner x) few = omega arith
 roots_by (Dhondt s) c NoWinner few = omega arith
@@ -51,21 +65,21 @@ none_beside : (x : ℕ) → x < 1 → map (λ j. Pair j x) (those 1 (λ j. not (
 none_beside zero lt = refl
 none_beside (suc x) lt = absurd (omega arith)
 
-alone_by : (rule : Rule) (p : Poll) (o : Outcome) → IsJudged rule → IsReported rule p o → p.c ≡ 1 → root_goals rule 1 o ≡ []
-alone_by Plurality p (Winner x) judged is one = none_beside x (omega (arith, one, is.greatest.stands))
-alone_by Borda p (Winner x) judged is one = none_beside x (omega (arith, one, is.greatest.stands))
-alone_by (Dhondt s) p (Seats shares) judged is one = refl
-alone_by Irv p o judged is one = absurd judged
-alone_by Condorcet p o judged is one = absurd judged
-alone_by Plurality p NoWinner judged is one = refl
-alone_by Plurality p (Seats shares) judged is one = refl
-alone_by Borda p NoWinner judged is one = refl
-alone_by Borda p (Seats shares) judged is one = refl
-alone_by (Dhondt s) p (Winner x) judged is one = refl
-alone_by (Dhondt s) p NoWinner judged is one = refl
+alone_by : (rule : Rule) (p : Poll) (o : Outcome) → IsSolved rule → IsReported rule p o → p.c ≡ 1 → root_goals rule 1 o ≡ []
+alone_by Plurality p (Winner x) solved is one = none_beside x (omega (arith, one, is.greatest.stands))
+alone_by Borda p (Winner x) solved is one = none_beside x (omega (arith, one, is.greatest.stands))
+alone_by (Dhondt s) p (Seats shares) solved is one = refl
+alone_by Irv p o solved is one = absurd solved
+alone_by Condorcet p o solved is one = absurd solved
+alone_by Plurality p NoWinner solved is one = refl
+alone_by Plurality p (Seats shares) solved is one = refl
+alone_by Borda p NoWinner solved is one = refl
+alone_by Borda p (Seats shares) solved is one = refl
+alone_by (Dhondt s) p (Winner x) solved is one = refl
+alone_by (Dhondt s) p NoWinner solved is one = refl
 
-pub alone_without_goals : (rule : Rule) (p : Poll) (o : Outcome) → IsJudged rule → IsReported rule p o → p.c ≡ 1 → root_goals rule p.c o ≡ []
-alone_without_goals rule p o judged is one = rw one (alone_by rule p o judged is one)
+pub alone_without_goals : (rule : Rule) (p : Poll) (o : Outcome) → IsSolved rule → IsReported rule p o → p.c ≡ 1 → root_goals rule p.c o ≡ []
+alone_without_goals rule p o solved is one = rw one (alone_by rule p o solved is one)
 
 -- ---- equal cuts
 

@@ -5,6 +5,7 @@ use Rattle.std.proofs.Common.{zero, suc}
 use Rattle.alteration_model.specs.Faults.{pairs_of}
 use Rattle.ballot_form.specs.Ballots.{Poll}
 use Rattle.ballot_form.specs.declared.rule.Rule.{Rule}
+use Rattle.ballot_form.specs.declared.rule.Rule.TheVariants.{Condorcet, Irv}
 use Rattle.bound_tree.specs.Growth.{cuts_of}
 use Rattle.bound_tree.specs.Nodes.{size}
 use Rattle.bound_tree.specs.Plain.{Plain, Split, Cut}
@@ -15,6 +16,12 @@ use Rattle.goal_rows.specs.declared.goals.Goal.{Goal}
 use Rattle.margin_check.specs.Meanings.{ClaimIsTrue}
 use Rattle.margin_check.specs.Validity.{IsValidCert, election_by, named_goal}
 use Rattle.witness_build.specs.Witnesses.{IsStartWitness}
+
+-- the rules whose margins are computed: all but Condorcet's and instant runoff
+abbrev pub IsSolved : Rule → Type 0
+IsSolved Condorcet = ⊥
+IsSolved Irv = ⊥
+IsSolved rule = Unit {0}
 
 -- the root split into a cut with the multiplier 1 for each goal
 abbrev pub split_for : List Goal → Plain

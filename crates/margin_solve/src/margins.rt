@@ -2,8 +2,7 @@
 ghost use Rattle.std.specs.Prelude.{◌≤◌, IfOk};
 ghost use Rattle.ballot_form.specs.Rules.{IsRule};
 ghost use Rattle.cert_text.specs.CertText.{IsPrintable};
-ghost use Rattle.margin_check.specs.Verdicts.{IsJudged};
-ghost use Rattle.margin_solve.specs.Certificates.{IsCertOf};
+ghost use Rattle.margin_solve.specs.Certificates.{IsCertOf, IsSolved};
 
 use crate::certs::{fixed_cert, margin_cert};
 use crate::limits::LEAST_BUDGET;
@@ -14,12 +13,11 @@ use mov_base::Memory;
 use std::alloc::Global;
 use witness_build::start_witness;
 
-/// The certificate of a contest under plurality, Borda or D'Hondt, the rules whose certificates are judged. It names
-/// the first pair that the fewest replacements bring level, and the ballots with the largest gains, lower numbers
-/// first. The budget is the most nodes of the tree; `LEAST_BUDGET` are enough for these rules.
+/// The certificate of a contest under plurality, Borda or D'Hondt, the rules whose margins are computed. It names the
+/// first pair that the fewest replacements bring level, and the ballots with the largest gains, lower numbers first. The budget is the most nodes of the tree; `LEAST_BUDGET` are enough for these rules.
 pub fn margin(alloc: Global, contest: &Contest, rule: Rule, budget: u32) -> Result<Cert, Memory>
     requires lawful { IsRule rule }
-    requires judged { IsJudged rule }
+    requires solved { IsSolved rule }
     requires enough { LEAST_BUDGET ≤ budget }
     requires most { budget ≤ MOST_BUDGET }
     ensures found { IfOk result (IsCertOf rule budget contest.now.roll) }

@@ -8,7 +8,7 @@ use Rattle.goal_rows.specs.Goals.{Holds, IsElection, IsReached, IsRootOf, gainer
 use Rattle.goal_rows.specs.Pairs.{Reaches, puts_of}
 use Rattle.goal_rows.specs.Races.{IsGroundIn}
 use Rattle.goal_rows.specs.declared.goals.Goal.{Goal}
-use Rattle.goal_rows.specs.declared.goals.Goal.TheVariants.{Root, Pair}
+use Rattle.goal_rows.specs.declared.goals.Goal.TheVariants.{Root, Suffix, Pair, Cover}
 use Rattle.goal_rows.specs.declared.parts.Ground.{Ground}
 use Rattle.goal_rows.proofs.PairGains.{length_reaches}
 use Rattle.goal_rows.proofs.PairPoints.{pair_points}
@@ -100,6 +100,8 @@ pub record AreBuilt (e : Election) (goal : Goal) (level : Level) (changes : List
 built_under : (e : Election) (goal : Goal) (g l : ℕ) (level : Level) (changes : List (ℕ × List ℕ)) → IsElection e → IsReached e goal → goal ≡ Pair g l
     → IsLevelFor (deficit_under e goal) (gains_under e goal) level → changes ≡ puts_of g (first_from level.gain level.equal 1 (gains_under e goal)) → AreBuilt e goal level changes
 built_under e Root g l level changes election reached pair is changes_are = absurd (cc)
+built_under e (Suffix suffix) g l level changes election reached pair is changes_are = absurd (cc)
+built_under e (Cover x) g l level changes election reached pair is changes_are = absurd (cc)
 built_under e (Pair h m) g l level changes election reached pair is changes_are =
     let same : g ≡ h = cc in
     let both = reached_pair e h m election.roots reached in

@@ -1,4 +1,4 @@
--- Of the ground of a goal: the greatest gain, what is lacking, and how many ballots have each gain.
+-- Of the ground of a pair: the greatest gain, what is lacking, and how many ballots have each gain.
 use Rattle.std.proofs.Common.{ℕ, List, [], ◌∷◌, ◌++◌, ◌≡◌, ◌<◌, ◌≤◌, ◌+◌, ◌-◌, ◌∙◌, length, map, replicate, nat_abs, slice_get, Some, FitsSigned, w64, to_z, of_z, sym, ap, refl, subst, arith, rules}
 use Rattle.std.specs.Prelude.{nat_eq, slice_index, ℤ, pos, negsuc, ◌-ℤ◌}
 use Rattle.std.proofs.lemmas.Bool.Decides.{nat_tests}
@@ -17,12 +17,12 @@ use Rattle.goal_rows.specs.Goals.{IsElection, IsReached, gainer_points, loser_po
 use Rattle.goal_rows.specs.Pairs.{gain_of}
 use Rattle.goal_rows.specs.Races.{IsGroundIn, key_of, keys_of, lone_weight}
 use Rattle.goal_rows.specs.declared.goals.Goal.{Goal}
-use Rattle.goal_rows.specs.declared.goals.Goal.TheVariants.{Root, Pair}
+use Rattle.goal_rows.specs.declared.goals.Goal.TheVariants.{Root, Suffix, Pair, Cover}
 use Rattle.goal_rows.specs.declared.parts.Ground.{Ground}
 use Rattle.goal_rows.proofs.PairPoints.{ArePairPoints, pair_points}
 use Rattle.goal_rows.proofs.Ways.{reached_pair}
 use Rattle.witness_build.specs.Levels.{AreCounts, AreEnough, above, below_zero, deficit_under, equals, gains_under, greatest_under, of_key}
-use Rattle.witness_build.specs.Witnesses.{pair_gains}
+use Rattle.witness_build.specs.Witnesses.{IsPair, pair_gains}
 
 -- ---- the greatest gain
 
@@ -36,15 +36,16 @@ pub record IsLone (e : Election) (goal : Goal) (lone : ℤ) : Type 0 where
 points_of : (e : Election) (g l : ℕ) → IsElection e → IsReached e (Pair g l) → ArePairPoints e g l
 points_of e g l election reached = pair_points e g l election (reached_pair e g l election.roots reached).1
 
-lone_under : (e : Election) (goal : Goal) → IsElection e → IsReached e goal → IsLone e goal (lone_weight e goal)
-lone_under e Root election reached = record { top = 0; is = refl; few = omega arith; greatest = refl }
-lone_under e (Pair g l) election reached =
+lone_under : (e : Election) (g l : ℕ) → IsElection e → IsReached e (Pair g l) → IsLone e (Pair g l) (lone_weight e (Pair g l))
+lone_under e g l election reached =
     let points = points_of e g l election reached in
     let none = points.none in
     record { top = gainer_points e g l (g ∷ []); is = omega (arith, ints, none); few = points.top; greatest = refl }
 
-pub lone_of : (e : Election) (start : Ground) → IsGroundIn e start → IsLone e start.goal start.lone
-lone_of e start is = subst (λ z. IsLone e start.goal z) (sym is.values.lone) (lone_under e start.goal is.election is.reached)
+pub lone_of : (e : Election) (start : Ground) → IsGroundIn e start → IsPair start.goal → IsLone e start.goal start.lone
+lone_of e start is (g, l, pair) =
+    let own = lone_under e g l is.election (subst (IsReached e) pair is.reached) in
+    subst (λ z. IsLone e start.goal z) (sym is.values.lone) (subst (λ goal. IsLone e goal (lone_weight e goal)) (sym pair) own)
 
 -- ---- what is lacking
 
@@ -57,18 +58,23 @@ abbrev pub first_below : List ℤ → ℕ
 first_below [] = 0
 first_below (sum ∷ sums) = below_zero sum
 
-below_under : (e : Election) (goal : Goal) → first_below (map (λ weight. sum_z weight e.poll.ballots) (rows_of e goal)) ≡ deficit_under e goal
-below_under e Root = refl
-below_under e (Pair g l) = below_difference _ _ _ (sum_z-difference (gainer_points e g l) (loser_points e g l) e.poll.ballots)
+-- the first row of the goal, on the ballots, is so far below zero
+abbrev IsBehind : Election → Goal → Type 0
+IsBehind e goal = first_below (map (λ weight. sum_z weight e.poll.ballots) (rows_of e goal)) ≡ deficit_under e goal
 
-pub behind_is : (e : Election) (start : Ground) → IsGroundIn e start → first_below start.sums ≡ deficit_under e start.goal
-behind_is e start is = ap first_below is.values.sums ∙ below_under e start.goal
+below_under : (e : Election) (g l : ℕ) → IsBehind e (Pair g l)
+below_under e g l = below_difference _ _ _ (sum_z-difference (gainer_points e g l) (loser_points e g l) e.poll.ballots)
+
+pub behind_is : (e : Election) (start : Ground) → IsGroundIn e start → IsPair start.goal → first_below start.sums ≡ deficit_under e start.goal
+behind_is e start is (g, l, pair) = ap first_below is.values.sums ∙ subst (IsBehind e) (sym pair) (below_under e g l)
 
 -- ---- how many ballots have each gain
 
 few_under : (e : Election) (goal : Goal) → IsElection e → length (keys_of e goal) ≤ MOST_BALLOTS
 few_under e Root election = omega arith
+few_under e (Suffix suffix) election = omega (arith, length-map e.poll.ballots (key_of e (Suffix suffix)), election.poll.few)
 few_under e (Pair g l) election = omega (arith, length-map e.poll.ballots (key_of e (Pair g l)), election.poll.few)
+few_under e (Cover x) election = omega (arith, length-map e.poll.ballots (key_of e (Cover x)), election.poll.few)
 
 pub few_classes : (e : Election) (start : Ground) → IsGroundIn e start → add_up (λ (c : ℕ × ℕ). c.1) start.classes ≤ MOST_BALLOTS
 few_classes e start is =
@@ -107,16 +113,21 @@ no_greater e g l (ballot ∷ ballots) points =
     let one = none_above (greatest_under e (Pair g l)) ((gainer_points e g l (g ∷ []) + loser_points e g l ballot) - gainer_points e g l ballot) (omega (arith, low)) in
     omega (arith, one, no_greater e g l ballots points)
 
-counts_under : (e : Election) (goal : Goal) (counts : List ℕ) → IsElection e → IsReached e goal → length counts ≡ greatest_under e goal
-    → ((k : ℕ) → k < length counts → slice_index counts k ≡ add_up (of_key k) (classes_of nat_eq (keys_of e goal))) → AreCounts (gains_under e goal) counts
-counts_under e Root counts election reached size each = record { few = omega arith; greatest = refl; each = each }
-counts_under e (Pair g l) counts election reached size each =
-    let points = points_of e g l election reached in
+-- there are so many ballots of each key under the goal
+record HaveKeys (e : Election) (counts : List ℕ) (goal : Goal) : Type 0 where
+  pub reached : IsReached e goal
+  pub size : length counts ≡ greatest_under e goal
+  pub each : (k : ℕ) → k < length counts → slice_index counts k ≡ add_up (of_key k) (classes_of nat_eq (keys_of e goal))
+
+counts_under : (e : Election) (g l : ℕ) (counts : List ℕ) → IsElection e → HaveKeys e counts (Pair g l) → AreCounts (gains_under e (Pair g l)) counts
+counts_under e g l counts election have =
+    let points = points_of e g l election have.reached in
+    let size = have.size in
     record {
       few = omega (arith, length-map e.poll.ballots (λ ballot. (gainer_points e g l (g ∷ []) + loser_points e g l ballot) - gainer_points e g l ballot), election.poll.few);
       greatest = rw size (no_greater e g l e.poll.ballots points);
       each = λ k lt.
-          each k lt ∙ sym ((keys_are_classes (keys_of e (Pair g l))).counted (equals k))
+          have.each k lt ∙ sym ((keys_are_classes (keys_of e (Pair g l))).counted (equals k))
           ∙ by_gain e g l k e.poll.ballots points (omega (arith, lt, size))
           ∙ ap (λ n. add_up (equals (n - k)) (pair_gains e g l)) (sym size);
     }
@@ -128,14 +139,20 @@ enough_by top plus minus (ballot ∷ ballots) = omega (arith, enough_by top plus
 
 enough_under : (e : Election) (goal : Goal) → deficit_under e goal ≤ add_up (λ x. x) (gains_under e goal)
 enough_under e Root = omega arith
+enough_under e (Suffix suffix) = omega arith
 enough_under e (Pair g l) = omega (arith, enough_by (gainer_points e g l (g ∷ [])) (gainer_points e g l) (loser_points e g l) e.poll.ballots)
+enough_under e (Cover x) = omega arith
 
-pub counted_gains : (e : Election) (start : Ground) (counts : List ℕ) → IsGroundIn e start → length counts ≡ greatest_under e start.goal
+pub counted_gains : (e : Election) (start : Ground) (counts : List ℕ) → IsGroundIn e start → IsPair start.goal → length counts ≡ greatest_under e start.goal
     → ((k : ℕ) → k < length counts → slice_index counts k ≡ add_up (of_key k) start.classes) → AreEnough (deficit_under e start.goal) (gains_under e start.goal) counts
-counted_gains e start counts is size each = record {
-  counted = counts_under e start.goal counts is.election is.reached size (λ k lt. each k lt ∙ ap (add_up (of_key k)) is.values.classes);
-  enough = enough_under e start.goal;
-}
+counted_gains e start counts is (g, l, pair) size each =
+    let have : HaveKeys e counts start.goal = record {
+      reached = is.reached;
+      size = size;
+      each = λ k lt. each k lt ∙ ap (add_up (of_key k)) is.values.classes;
+    } in
+    let counted = counts_under e g l counts is.election (subst (HaveKeys e counts) pair have) in
+    record { counted = subst (λ goal. AreCounts (gains_under e goal) counts) (sym pair) counted; enough = enough_under e start.goal }
 
 -- ---- as the code has them
 
@@ -163,6 +180,8 @@ pub record IsGained (e : Election) (goal : Goal) (key greatest count : ℕ) (old
 pub gained_by_run : (e : Election) (goal : Goal) (g l key greatest : ℕ) (old : Left) (run : Run) (new : Left) → IsElection e → IsReached e goal → goal ≡ Pair g l
     → IsFirstRun old run new → key ≡ key_of e goal run.row.now → greatest ≡ greatest_under e goal → IsGained e goal key greatest run.count old.ballots new.ballots
 gained_by_run e Root g l key greatest old run new election reached pair is key_is greatest_is = absurd (cc)
+gained_by_run e (Suffix suffix) g l key greatest old run new election reached pair is key_is greatest_is = absurd (cc)
+gained_by_run e (Cover x) g l key greatest old run new election reached pair is key_is greatest_is = absurd (cc)
 gained_by_run e (Pair h m) g l key greatest old run new election reached pair is key_is greatest_is =
     let points = points_of e h m election reached in
     let row = run.row.now in
@@ -177,4 +196,6 @@ gained_by_run e (Pair h m) g l key greatest old run new election reached pair is
 
 pub gains_of_none : (e : Election) (goal : Goal) → gains_of e goal [] ≡ []
 gains_of_none e Root = refl
+gains_of_none e (Suffix suffix) = refl
 gains_of_none e (Pair g l) = refl
+gains_of_none e (Cover x) = refl

@@ -1,21 +1,20 @@
 -- One root pair more on the way to the one that the fewest replacements bring level.
-use Rattle.std.proofs.Common.{ℕ, List, true, false, Option, Some, None, ◌≡◌, ◌<◌, ◌≤◌, ◌+◌, ◌∙◌, length, get_or, sym, subst, inl, inr, arith}
+use Rattle.std.proofs.Common.{ℕ, List, true, false, Option, Some, None, ◌≡◌, ◌<◌, ◌≤◌, ◌+◌, ◌∙◌, length, get_or, ap, sym, subst, inl, inr, arith, All}
 use Rattle.std.proofs.lemmas.Bool.{cases_lt, ltb-true, ltb-false}
 use Rattle.std.proofs.lemmas.List.{get_or_default}
 use Rattle.goal_rows.specs.Elections.{Election}
-use Rattle.goal_rows.specs.Goals.{IsElection, IsRootOf}
+use Rattle.goal_rows.specs.Goals.{IsElection, IsReached}
 use Rattle.goal_rows.specs.Races.{IsGroundIn, IsGroundOf}
 use Rattle.goal_rows.specs.declared.goals.Goal.{Goal}
 use Rattle.goal_rows.specs.declared.goals.Goal.TheVariants.{Root, Pair}
 use Rattle.goal_rows.specs.declared.parts.Ground.{Ground}
-use Rattle.goal_rows.proofs.Ways.{reached_exactly}
+use Rattle.goal_rows.proofs.Ways.{reached_root_goal}
 use Rattle.witness_build.specs.Levels.{IsLevelFor, IsLevelUnder, deficit_under, gains_under}
 use Rattle.witness_build.specs.Nearest.{IsNearestSoFar, IsNearestUpTo, is_closer}
-use Rattle.witness_build.specs.Witnesses.{IsRootPair, IsStartWitness, IsWitnessOf, PairReaches}
+use Rattle.witness_build.specs.Witnesses.{IsPair, IsRootPair, IsStartWitness, IsWitnessOf, PairReaches}
 use Rattle.witness_build.specs.declared.levels.Level.{Level}
 use Rattle.witness_build.specs.declared.starts.Near.{Near}
 use Rattle.witness_build.proofs.Thresholds.{level_least}
-use Rattle.witness_build.proofs.RootPairs.{pair_of_root}
 
 -- ---- the goal at a place
 
@@ -26,10 +25,20 @@ pub record IsLevelAt (e : Election) (at : ℕ) (start : Ground) (level : Level) 
   pub known : IsGroundIn e start
   pub reaches : IsLevelUnder start level
 
+-- the goal that a loop over the root's goals has at a place
+pub item_at : (roots items : List Goal) (at : ℕ) (goal : Goal) → items ≡ roots → at < length items → goal ≡ get_or items at goal → (at < length roots) × (get_or roots at Root ≡ goal)
+item_at roots items at goal same within is = (
+  subst (λ xs. at < length xs) same within,
+  ap (λ xs. get_or xs at Root) (sym same) ∙ get_or_default items at Root goal within ∙ sym is,
+)
+
+pub reached_at : (e : Election) (at : ℕ) (goal : Goal) → at < length e.roots → get_or e.roots at Root ≡ goal → IsReached e goal
+reached_at e at goal within stands = reached_root_goal e goal (at, within, get_or_default e.roots at goal Root within ∙ stands)
+
 pub ground_at : (e : Election) (at : ℕ) (start : Ground) → IsElection e → at < length e.roots → get_or e.roots at Root ≡ start.goal → IsGroundOf e start → IsGroundIn e start
 ground_at e at start election within stands values = record {
   election = election;
-  reached = (reached_exactly e start.goal).1 (inr (at, within, get_or_default e.roots at start.goal Root within ∙ stands));
+  reached = reached_at e at start.goal within stands;
   values = values;
 }
 
@@ -99,9 +108,8 @@ nearest_stays e at (Some near) start level before closer is = nearest_kept e at 
 
 -- ---- the nearest of all
 
-pub pair_of_nearest : (e : Election) (to : ℕ) (near : Near) → to ≤ length e.roots → IsNearestUpTo e to near → (g : ℕ) × (l : ℕ) × (near.start.goal ≡ Pair g l)
-pair_of_nearest e to near le is =
-    pair_of_root e near.start.goal (subst (IsRootOf e) is.stands (is.start.election.roots.each is.place Root (omega (arith, le, is.within))))
+pub pair_of_nearest : (e : Election) (to : ℕ) (near : Near) → All IsPair e.roots → to ≤ length e.roots → IsNearestUpTo e to near → IsPair near.start.goal
+pair_of_nearest e to near pairs le is = subst IsPair is.stands (pairs is.place Root (omega (arith, le, is.within)))
 
 pub started : (e : Election) (near : Near) (goal : Goal) (changes : List (ℕ × List ℕ)) → IsNearestUpTo e (length e.roots) near → goal ≡ near.start.goal → IsWitnessOf e goal changes
     → length changes ≡ near.level.count → IsStartWitness e goal changes

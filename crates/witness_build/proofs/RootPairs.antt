@@ -1,9 +1,10 @@
--- There is no root pair exactly where there is one candidate.
-use Rattle.std.proofs.Common.{ℕ, zero, suc, List, [], ◌∷◌, ◌≡◌, ◌≢◌, ◌<◌, ◌≤◌, ◌∙◌, length, get_or, refl, ap, sym, inl, inr, arith}
+-- The root goals of a contest that is decided by pairs are pairs, and there is none exactly where there is one candidate.
+use Rattle.std.proofs.Common.{ℕ, zero, suc, List, [], ◌∷◌, ◌≡◌, ◌≢◌, ◌<◌, ◌≤◌, ◌∙◌, length, map, get_or, ap, sym, subst, inl, inr, arith, All}
 use Rattle.std.specs.Prelude.{Contains, slice_index}
-use Rattle.std.specs.List.{range_with_len}
+use Rattle.std.specs.List.{flat_map, range_with_len}
 use Rattle.std.proofs.lemmas.Bool.{cases_lt}
 use Rattle.std.proofs.lemmas.List.{length-map}
+use Rattle.std.proofs.lemmas.List.Elements.{Contains-get_or}
 use Rattle.std.proofs.lemmas.List.FromFn.{length-range_with_len}
 use Rattle.ballot_form.specs.Ballots.{Poll}
 use Rattle.ballot_form.specs.Rules.{IsRule}
@@ -13,27 +14,59 @@ use Rattle.ballot_form.specs.declared.rule.Rule.{Rule}
 use Rattle.ballot_form.specs.declared.rule.Rule.TheVariants.{Plurality, Borda, Condorcet, Dhondt, Irv}
 use Rattle.dhondt_seats.specs.Seats.{reported_seats, seats_in_all, votes_of}
 use Rattle.goal_rows.specs.Elections.{Election}
-use Rattle.goal_rows.specs.Goals.{IsDecidedByPairs, IsElection, IsRootOf, root_goals}
+use Rattle.goal_rows.specs.Goals.{IsDecidedByPairs, IsElection, IsRootOf, is_seated, root_goals}
 use Rattle.goal_rows.specs.Outcomes.{IsReported}
+use Rattle.goal_rows.specs.Suffixes.{others, those}
 use Rattle.goal_rows.specs.declared.goals.Goal.{Goal}
 use Rattle.goal_rows.specs.declared.goals.Goal.TheVariants.{Root, Pair}
+use Rattle.goal_rows.proofs.Lists.{lists_are, made_are}
 use Rattle.goal_rows.proofs.Roots.{pair_among, seat_pair_among}
 use Rattle.goal_rows.proofs.SeatMoves.{reported_allocation}
+use Rattle.witness_build.specs.Witnesses.{IsPair}
 
--- a goal of the root is a pair
-pub pair_of_root : (e : Election) (goal : Goal) → IsRootOf e goal → (g : ℕ) × (l : ℕ) × (goal ≡ Pair g l)
-pair_of_root e Root is = absurd is
-pair_of_root e (Pair g l) is = (g, l, refl)
+-- ---- where pairs decide, the root goals are pairs
+
+none_among : (goal : Goal) → Contains [] goal → ⊥
+none_among goal there = omega (arith, there.1)
+
+pair_with_winner : (c x : ℕ) (goal : Goal) → Contains (map (λ j. Pair j x) (others c x)) goal → IsPair goal
+pair_with_winner c x goal there = let is = made_are (λ j. Pair j x) (others c x) goal there in (is.0, x, sym is.2)
+
+pair_with_seated : (c : ℕ) (shares : List ℕ) (goal : Goal) → Contains (flat_map (λ g. map (λ l. Pair g l) (those c (is_seated shares g))) (range_with_len 0 c)) goal → IsPair goal
+pair_with_seated c shares goal there =
+    let among = lists_are (λ g. map (λ l. Pair g l) (those c (is_seated shares g))) c goal there in
+    let is = made_are (λ l. Pair among.0 l) (those c (is_seated shares among.0)) goal among.2 in
+    (among.0, is.0, sym is.2)
+
+pair_of_own : (rule : Rule) (c : ℕ) (reported : Outcome) (goal : Goal) → IsDecidedByPairs rule reported → Contains (root_goals rule c reported) goal → IsPair goal
+pair_of_own Plurality c (Winner x) goal decided there = pair_with_winner c x goal there
+pair_of_own Plurality c NoWinner goal decided there = absurd (none_among goal there)
+pair_of_own Plurality c (Seats shares) goal decided there = absurd (none_among goal there)
+pair_of_own Borda c (Winner x) goal decided there = pair_with_winner c x goal there
+pair_of_own Borda c NoWinner goal decided there = absurd (none_among goal there)
+pair_of_own Borda c (Seats shares) goal decided there = absurd (none_among goal there)
+pair_of_own Condorcet c (Winner x) goal decided there = pair_with_winner c x goal there
+pair_of_own Condorcet c NoWinner goal decided there = absurd decided
+pair_of_own Condorcet c (Seats shares) goal decided there = absurd (none_among goal there)
+pair_of_own (Dhondt s) c (Seats shares) goal decided there = pair_with_seated c shares goal there
+pair_of_own (Dhondt s) c (Winner x) goal decided there = absurd (none_among goal there)
+pair_of_own (Dhondt s) c NoWinner goal decided there = absurd (none_among goal there)
+pair_of_own Irv c reported goal decided there = absurd decided
+
+pub own_are_pairs : (rule : Rule) (c : ℕ) (reported : Outcome) (roots : List Goal) → IsDecidedByPairs rule reported → roots ≡ root_goals rule c reported → All IsPair roots
+own_are_pairs rule c reported roots decided own =
+    subst (All IsPair) (sym own) (λ k d lt. pair_of_own rule c reported (get_or (root_goals rule c reported) k d) decided (Contains-get_or (root_goals rule c reported) k d lt))
 
 -- ---- one candidate
 
-no_pair_of_one : (e : Election) (goal : Goal) → e.poll.c ≡ 1 → IsRootOf e goal → ⊥
-no_pair_of_one e Root one is = is
-no_pair_of_one e (Pair g l) one is = is.3 (omega (arith, is.1, is.2, one))
+no_pair_of_one : (e : Election) (goal : Goal) → e.poll.c ≡ 1 → IsPair goal → IsRootOf e goal → ⊥
+no_pair_of_one e goal one (g, l, pair) is =
+    let root : IsRootOf e (Pair g l) = subst (IsRootOf e) pair is in
+    root.3 (omega (arith, root.1, root.2, one))
 
-pub none_of_one : (e : Election) → IsElection e → e.poll.c ≡ 1 → length e.roots ≡ 0
-none_of_one e election one = elim (cases_lt 0 (length e.roots)) [
-  | inl some ↦ absurd (no_pair_of_one e (get_or e.roots 0 Root) one (election.roots.each 0 Root some))
+pub none_of_one : (e : Election) → IsElection e → All IsPair e.roots → e.poll.c ≡ 1 → length e.roots ≡ 0
+none_of_one e election pairs one = elim (cases_lt 0 (length e.roots)) [
+  | inl some ↦ absurd (no_pair_of_one e (get_or e.roots 0 Root) one (pairs 0 Root some) (election.roots.each 0 Root some))
   | inr none ↦ omega (arith, none)
 ]
 

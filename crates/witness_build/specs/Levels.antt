@@ -7,7 +7,7 @@ use Rattle.goal_rows.specs.Elections.{Election}
 use Rattle.goal_rows.specs.Goals.{gainer_points}
 use Rattle.goal_rows.specs.Races.{IsGroundIn}
 use Rattle.goal_rows.specs.declared.goals.Goal.{Goal}
-use Rattle.goal_rows.specs.declared.goals.Goal.TheVariants.{Root, Pair}
+use Rattle.goal_rows.specs.declared.goals.Goal.TheVariants.{Root, Suffix, Pair, Cover}
 use Rattle.goal_rows.specs.declared.parts.Ground.{Ground}
 use Rattle.witness_build.specs.Witnesses.{pair_deficit, pair_gains}
 use Rattle.witness_build.specs.declared.levels.Level.{Level}
@@ -64,21 +64,27 @@ abbrev pub below_zero : ℤ → ℕ
 below_zero (pos n) = 0
 below_zero (negsuc n) = suc n
 
--- ---- gains under a goal: the root has none
+-- ---- gains under a goal: they are those of a pair, and no other goal has any
 
 -- by how much the gainer is behind
 abbrev pub deficit_under : Election → Goal → ℕ
 deficit_under e Root = 0
+deficit_under e (Suffix suffix) = 0
 deficit_under e (Pair g l) = pair_deficit e g l
+deficit_under e (Cover x) = 0
 
 abbrev pub gains_under : Election → Goal → List ℕ
 gains_under e Root = []
+gains_under e (Suffix suffix) = []
 gains_under e (Pair g l) = pair_gains e g l
+gains_under e (Cover x) = []
 
 -- no gain is greater
 abbrev pub greatest_under : Election → Goal → ℕ
 greatest_under e Root = 1024
+greatest_under e (Suffix suffix) = 1024
 greatest_under e (Pair g l) = gainer_points e g l (g ∷ []) + 1024
+greatest_under e (Cover x) = 1024
 
 -- the level of a goal in every election in which this is its ground
 abbrev pub IsLevelUnder : Ground → Level → Type 0

@@ -6,7 +6,11 @@ use Rattle.goal_rows.specs.Elections.{Election}
 use Rattle.goal_rows.specs.Goals.{Holds, IsComplete, gainer_points, loser_points}
 use Rattle.goal_rows.specs.Pairs.{ComeFirst, Reaches, deficit_of, gain_of, puts_of}
 use Rattle.goal_rows.specs.declared.goals.Goal.{Goal}
-use Rattle.goal_rows.specs.declared.goals.Goal.TheVariants.{Root, Pair}
+use Rattle.goal_rows.specs.declared.goals.Goal.TheVariants.{Root, Suffix, Pair, Cover}
+
+-- the goal is a pair
+abbrev pub IsPair : Goal → Type 0
+IsPair goal = (g : ℕ) × (l : ℕ) × (goal ≡ Pair g l)
 
 -- by how much the gainer is behind
 abbrev pub pair_deficit : Election → ℕ → ℕ → ℕ
@@ -38,7 +42,9 @@ pub record IsPairWitness (e : Election) (g l : ℕ) (changes : List (ℕ × List
 -- the same of a goal that is a pair
 abbrev pub IsWitnessOf : Election → Goal → List (ℕ × List ℕ) → Type 0
 IsWitnessOf e Root changes = ⊥
+IsWitnessOf e (Suffix suffix) changes = ⊥
 IsWitnessOf e (Pair g l) changes = IsPairWitness e g l changes
+IsWitnessOf e (Cover x) changes = ⊥
 
 -- the root goal at this place, from 0, is this pair
 abbrev pub IsRootPair : Election → ℕ → ℕ → ℕ → Type 0

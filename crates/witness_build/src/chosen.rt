@@ -1,9 +1,9 @@
 // The ballots to replace.
-ghost use Rattle.std.specs.Prelude.{◌≡◌, ◌++◌, ◌+◌, ◌<◌, ◌^◌, ℕ, IfOk, OnOk};
+ghost use Rattle.std.specs.Prelude.{◌≡◌, ◌++◌, ◌+◌, ◌<◌, ◌^◌, IfOk, OnOk};
 ghost use Rattle.std.specs.List.{range_with_len};
 ghost use Rattle.goal_rows.specs.Races.{IsRace, election_of, IsGroundIn};
-ghost use Rattle.goal_rows.specs.declared.goals.Goal.TheVariants.{Pair};
 ghost use Rattle.witness_build.specs.Levels.{IsLevelUnder, first_from, gains_under};
+ghost use Rattle.witness_build.specs.Witnesses.{IsPair};
 
 use crate::levels::{Level, greatest_gain};
 use goal_rows::key;
@@ -24,7 +24,7 @@ pub(crate) fn first_numbers(
 ) -> Result<NumberList, Memory>
     requires race { IsRace race.now }
     requires start { IsGroundIn (election_of race.now) start.now }
-    requires pair { (g : ℕ) × (l : ℕ) × (start.now.goal ≡ Pair g l) }
+    requires pair { IsPair start.now.goal }
     requires level { IsLevelUnder start.now level }
     ensures { IfOk result (λ numbers.
         numbers ≡ first_from level.gain level.equal 1 (gains_under (election_of race.now) start.now.goal)) }

@@ -4,6 +4,7 @@ ghost use Rattle.mov_base.specs.Sums.{add_up};
 ghost use Rattle.goal_rows.specs.Elections.{Election};
 ghost use Rattle.goal_rows.specs.Races.{IsGroundIn, IsSomeGround};
 ghost use Rattle.witness_build.specs.Levels.{AreCounts, AreEnough, IsLevelFor, IsLevelUnder, below_zero, deficit_under, greatest_under, of_key};
+ghost use Rattle.witness_build.specs.Witnesses.{IsPair};
 
 use ballot_form::MOST_BALLOTS;
 use goal_rows::parts::Ground;
@@ -20,9 +21,10 @@ pub(crate) struct Level {
     pub count: u32,
 }
 
-/// The level of a goal. The gains are gone through from the greatest that a ballot can have.
+/// The level of a pair. The gains are gone through from the greatest that a ballot can have.
 pub(crate) fn level_of(alloc: Global, start: &Ground) -> Result<Level, Memory>
-    requires { IsSomeGround start.now }
+    requires start { IsSomeGround start.now }
+    requires pair { IsPair start.now.goal }
     ensures { IfOk result (IsLevelUnder start.now) }
 {
     let end = greatest_gain(start) as usize;
@@ -32,7 +34,8 @@ pub(crate) fn level_of(alloc: Global, start: &Ground) -> Result<Level, Memory>
 
 /// The greatest gain that a ballot can have.
 pub(crate) fn greatest_gain(start: &Ground) -> u64
-    requires { IsSomeGround start.now }
+    requires start { IsSomeGround start.now }
+    requires pair { IsPair start.now.goal }
     ensures value { (e : Election) → IsGroundIn e start.now → result ≡ greatest_under e start.now.goal }
     ensures some { 1024 ≤ result }
     ensures few { result ≤ 2048 }
@@ -42,6 +45,7 @@ pub(crate) fn greatest_gain(start: &Ground) -> u64
 
 /// By how much the gainer is behind.
 fn behind(start: &Ground) -> u64
+    requires pair { IsPair start.now.goal }
     ensures { (e : Election) → IsGroundIn e start.now → result ≡ deficit_under e start.now.goal }
 {
     match start.sums.as_slice().first() {

@@ -1,12 +1,11 @@
 // The cheapest replacements of a pair.
-ghost use Rattle.std.specs.Prelude.{◌≡◌, ℕ, IfOk, length};
+ghost use Rattle.std.specs.Prelude.{◌≡◌, IfOk, length};
 ghost use Rattle.alteration_model.specs.Faults.{pairs_of};
 ghost use Rattle.goal_rows.specs.Goals.{IsReached};
 ghost use Rattle.goal_rows.specs.Pairs.{puts_of};
 ghost use Rattle.goal_rows.specs.Races.{IsGroundIn, IsRace, election_of};
-ghost use Rattle.goal_rows.specs.declared.goals.Goal.TheVariants.{Pair};
 ghost use Rattle.witness_build.specs.Levels.{IsLevelUnder};
-ghost use Rattle.witness_build.specs.Witnesses.{IsMetBy, IsWitnessOf};
+ghost use Rattle.witness_build.specs.Witnesses.{IsMetBy, IsPair, IsWitnessOf};
 
 use crate::chosen::first_numbers;
 use crate::levels::{Level, level_of};
@@ -30,7 +29,7 @@ pub struct Witness {
 /// gainer alone, of the ballots with the largest gains, the lower number first at equal gains.
 pub fn pair_witness(alloc: Global, race: &Race<'_>, goal: &Goal) -> Result<Witness, Memory>
     requires race { IsRace race.now }
-    requires pair { (g : ℕ) × (l : ℕ) × (goal.now ≡ Pair g l) }
+    requires pair { IsPair goal.now }
     requires reached { IsReached (election_of race.now) goal.now }
     ensures goal { IfOk result (λ witness. witness.goal ≡ goal.now) }
     ensures least { IfOk result (λ witness. IsWitnessOf (election_of race.now) witness.goal witness.changes) }
@@ -50,7 +49,7 @@ pub(crate) fn witness_at(
 ) -> Result<Witness, Memory>
     requires race { IsRace race.now }
     requires start { IsGroundIn (election_of race.now) start.now }
-    requires pair { (g : ℕ) × (l : ℕ) × (start.now.goal ≡ Pair g l) }
+    requires pair { IsPair start.now.goal }
     requires level { IsLevelUnder start.now level }
     ensures goal { IfOk result (λ witness. witness.goal ≡ start.now.goal) }
     ensures least { IfOk result (λ witness. IsWitnessOf (election_of race.now) witness.goal witness.changes) }

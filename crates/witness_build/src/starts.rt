@@ -1,9 +1,9 @@
 // The cheapest replacements of the root's pairs.
-ghost use Rattle.std.specs.Prelude.{◌≡◌, ◌↔◌, None, IfOk, IfSome, length};
+ghost use Rattle.std.specs.Prelude.{◌≡◌, ◌↔◌, All, None, IfOk, IfSome, length};
 ghost use Rattle.goal_rows.specs.Goals.{IsDecidedByPairs, root_goals};
 ghost use Rattle.goal_rows.specs.Races.{IsRace, election_of};
 ghost use Rattle.witness_build.specs.Nearest.{IsNearestSoFar, is_closer as closer_than};
-ghost use Rattle.witness_build.specs.Witnesses.{IsMetBy, IsStartWitness};
+ghost use Rattle.witness_build.specs.Witnesses.{IsMetBy, IsPair, IsStartWitness};
 
 use crate::levels::{Level, level_of};
 use crate::pairs::{Witness, witness_at};
@@ -38,6 +38,7 @@ struct Near {
 /// The first root pair that the fewest replacements bring level.
 fn nearest(alloc: Global, race: &Race<'_>) -> Result<Option<Near>, Memory>
     requires race { IsRace race.now }
+    requires pairs { All IsPair race.now.roots }
     ensures { IfOk result (IsNearestSoFar (election_of race.now) (length race.now.roots)) }
 {
     let mut near: Option<Near> = None;

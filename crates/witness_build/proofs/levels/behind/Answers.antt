@@ -9,4 +9,4 @@ returns-in-Some c = λ e is.
     let fits : FitsSigned w64 c.in-Some.sum.now = search rules in
     let own : c.missing.result ≡ below_zero c.in-Some.sum.now = simp to_z-of_z at c.missing.ensures in
     let first : Some c.in-Some.sum.now ≡ slice_get c.args.start.now.sums 0 = subst (λ xs. Some c.in-Some.sum.now ≡ slice_get xs 0) c.as_slice.ensures c.in-Some.ensures.value in
-    own ∙ sym (below_first c.in-Some.sum.now c.args.start.now.sums first) ∙ behind_is e c.args.start.now is
+    own ∙ sym (below_first c.in-Some.sum.now c.args.start.now.sums first) ∙ behind_is e c.args.start.now is c.requires.pair
