@@ -28,7 +28,7 @@ use Rattle.margin_check.specs.Validity.{ClaimHolds, HasOrder, IsValidCert, elect
 use Rattle.margin_check.proofs.Judging.{same_election}
 use Rattle.margin_check.proofs.Meaning.{claim_is_true}
 use Rattle.margin_check.proofs.Trees.{cuts_of, shape_of}
-use Rattle.margin_solve.specs.Certificates.{IsCertOf, IsFixedCert, IsMarginCert, IsSolved, split_for, tree_for}
+use Rattle.margin_solve.specs.Certificates.{IsCertOf, IsFixedCert, IsMarginCert, HasMargins, split_for, tree_for}
 use Rattle.margin_solve.proofs.Cutting.{proved_by}
 use Rattle.margin_solve.proofs.Printing.{HeadIs, TreeFits, pair_body, printable, puts_few, split_fits, tree_fits}
 use Rattle.margin_solve.proofs.Trees.{alone_without_goals, roots_few, solved_by_pairs}
@@ -50,7 +50,7 @@ record HasHead (race : Race) (cert : Cert) : Type 0 where
   pub reported : cert.reported ≡ race.reported
 
 module _ (race : Race) (cert : Cert) (is : IsRace race) (own : race.roots ≡ root_goals race.rule race.roll.now.c race.reported)
-    (solved : IsSolved race.rule) (has : HasHead race cert) where
+    (solved : HasMargins race.rule) (has : HasHead race cert) where
   abbrev p : Poll
   p = race.roll.now
 
@@ -64,8 +64,8 @@ module _ (race : Race) (cert : Cert) (is : IsRace race) (own : race.roots ≡ ro
   election : IsElection e
   election = subst IsElection same is.election
 
-  solved_cert : IsSolved cert.rule
-  solved_cert = subst IsSolved (sym has.rule) solved
+  solved_cert : HasMargins cert.rule
+  solved_cert = subst HasMargins (sym has.rule) solved
 
   head : HeadIs p cert
   head = record {
@@ -168,7 +168,7 @@ module _ (race : Race) (cert : Cert) (is : IsRace race) (own : race.roots ≡ ro
 
 -- ---- the same of the very certificates that are made
 
-module _ (race : Race) (is : IsRace race) (own : race.roots ≡ root_goals race.rule race.roll.now.c race.reported) (solved : IsSolved race.rule)
+module _ (race : Race) (is : IsRace race) (own : race.roots ≡ root_goals race.rule race.roll.now.c race.reported) (solved : HasMargins race.rule)
     (c ballots : ℕ) (reported : Outcome) (puts : List Put) (tree : Plain) (candidates : c ≡ race.roll.now.c)
     (many : ballots ≡ length race.roll.now.ballots) (same_outcome : reported ≡ race.reported) where
   abbrev of_claim : Claim → Option GoalText → Cert

@@ -33,7 +33,7 @@ use Rattle.dhondt_seats.specs.Seats.{seats_of, votes_of}
 use Rattle.goal_rows.specs.Outcomes.{IsReported}
 use Rattle.goal_rows.specs.declared.goals.Goal.{Goal}
 use Rattle.goal_rows.proofs.PairPoints.{few_seats}
-use Rattle.margin_solve.specs.Certificates.{IsSolved, split_for, tree_for}
+use Rattle.margin_solve.specs.Certificates.{HasMargins, split_for, tree_for}
 
 -- ---- built one by one
 
@@ -68,7 +68,7 @@ all_made f most [] few k d lt = absurd (omega arith)
 all_made f most (x ∷ xs) few zero d lt = few x
 all_made f most (x ∷ xs) few (suc k) d lt = all_made f most xs few k d (omega arith)
 
-outcome_fits : (rule : Rule) (p : Poll) (o : Outcome) → IsSolved rule → IsRule rule → IsPoll p → IsReported rule p o → OutcomeFits rule p.c o
+outcome_fits : (rule : Rule) (p : Poll) (o : Outcome) → HasMargins rule → IsRule rule → IsPoll p → IsReported rule p o → OutcomeFits rule p.c o
 outcome_fits Plurality p (Winner x) solved lawful poll is = omega (arith, is.greatest.stands, poll.most)
 outcome_fits Borda p (Winner x) solved lawful poll is = omega (arith, is.greatest.stands, poll.most)
 outcome_fits (Dhondt s) p (Seats shares) solved lawful poll is =
@@ -157,7 +157,7 @@ tree_fits roots (suc k) few = split_fits roots few
 pub record HeadIs (p : Poll) (cert : Cert) : Type 0 where
   pub poll : IsPoll p
   pub lawful : IsRule cert.rule
-  pub solved : IsSolved cert.rule
+  pub solved : HasMargins cert.rule
   pub candidates : cert.c ≡ p.c
   pub ballots : cert.ballots ≡ length p.ballots
   pub reported : IsReported cert.rule p cert.reported

@@ -18,11 +18,11 @@ use Rattle.goal_rows.specs.Suffixes.{those}
 use Rattle.goal_rows.specs.declared.goals.Goal.{Goal}
 use Rattle.goal_rows.specs.declared.goals.Goal.TheVariants.{Suffix, Pair, Cover}
 use Rattle.goal_rows.proofs.Lists.{lists_few, made_few}
-use Rattle.margin_solve.specs.Certificates.{IsSolved, split_for, tree_for}
+use Rattle.margin_solve.specs.Certificates.{HasMargins, split_for, tree_for}
 
 -- ---- pairs decide where margins are computed
 
-pub solved_by_pairs : (rule : Rule) (o : Outcome) → IsSolved rule → IsDecidedByPairs rule o
+pub solved_by_pairs : (rule : Rule) (o : Outcome) → HasMargins rule → IsDecidedByPairs rule o
 solved_by_pairs Plurality o solved = tt
 solved_by_pairs Borda o solved = tt
 solved_by_pairs Condorcet o solved = absurd solved
@@ -65,7 +65,7 @@ none_beside : (x : ℕ) → x < 1 → map (λ j. Pair j x) (those 1 (λ j. not (
 none_beside zero lt = refl
 none_beside (suc x) lt = absurd (omega arith)
 
-alone_by : (rule : Rule) (p : Poll) (o : Outcome) → IsSolved rule → IsReported rule p o → p.c ≡ 1 → root_goals rule 1 o ≡ []
+alone_by : (rule : Rule) (p : Poll) (o : Outcome) → HasMargins rule → IsReported rule p o → p.c ≡ 1 → root_goals rule 1 o ≡ []
 alone_by Plurality p (Winner x) solved is one = none_beside x (omega (arith, one, is.greatest.stands))
 alone_by Borda p (Winner x) solved is one = none_beside x (omega (arith, one, is.greatest.stands))
 alone_by (Dhondt s) p (Seats shares) solved is one = refl
@@ -78,7 +78,7 @@ alone_by Borda p (Seats shares) solved is one = refl
 alone_by (Dhondt s) p (Winner x) solved is one = refl
 alone_by (Dhondt s) p NoWinner solved is one = refl
 
-pub alone_without_goals : (rule : Rule) (p : Poll) (o : Outcome) → IsSolved rule → IsReported rule p o → p.c ≡ 1 → root_goals rule p.c o ≡ []
+pub alone_without_goals : (rule : Rule) (p : Poll) (o : Outcome) → HasMargins rule → IsReported rule p o → p.c ≡ 1 → root_goals rule p.c o ≡ []
 alone_without_goals rule p o solved is one = rw one (alone_by rule p o solved is one)
 
 -- ---- equal cuts

@@ -18,10 +18,10 @@ use Rattle.margin_check.specs.Validity.{IsValidCert, election_by, named_goal}
 use Rattle.witness_build.specs.Witnesses.{IsStartWitness}
 
 -- the rules whose margins are computed: all but Condorcet's and instant runoff
-abbrev pub IsSolved : Rule → Type 0
-IsSolved Condorcet = ⊥
-IsSolved Irv = ⊥
-IsSolved rule = Unit {0}
+abbrev pub HasMargins : Rule → Type 0
+HasMargins Condorcet = ⊥
+HasMargins Irv = ⊥
+HasMargins rule = Unit {0}
 
 -- the root split into a cut with the multiplier 1 for each goal
 abbrev pub split_for : List Goal → Plain

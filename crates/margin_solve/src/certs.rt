@@ -6,7 +6,7 @@ ghost use Rattle.bound_tree.specs.Plain.{Split};
 ghost use Rattle.cert_text.specs.CertText.{IsPrintable};
 ghost use Rattle.goal_rows.specs.Goals.{root_goals};
 ghost use Rattle.goal_rows.specs.Races.{IsRace, election_of};
-ghost use Rattle.margin_solve.specs.Certificates.{IsCertOf, IsSolved, tree_for};
+ghost use Rattle.margin_solve.specs.Certificates.{IsCertOf, HasMargins, tree_for};
 ghost use Rattle.witness_build.specs.Witnesses.{IsMetBy, IsStartWitness};
 
 use crate::limits::LEAST_BUDGET;
@@ -24,7 +24,7 @@ use witness_build::Witness;
 pub(crate) fn fixed_cert(alloc: Global, race: &Race<'_>) -> Result<Cert, Memory>
     requires race { IsRace race.now }
     requires own { race.now.roots ≡ root_goals race.now.rule race.now.roll.now.c race.now.reported }
-    requires solved { IsSolved race.now.rule }
+    requires solved { HasMargins race.now.rule }
     requires alone { race.now.roll.now.c ≡ 1 }
     ensures found { IfOk result (IsCertOf race.now.rule LEAST_BUDGET race.now.roll.now) }
     ensures printable { IfOk result IsPrintable }
@@ -45,7 +45,7 @@ pub(crate) fn fixed_cert(alloc: Global, race: &Race<'_>) -> Result<Cert, Memory>
 pub(crate) fn margin_cert(alloc: Global, race: &Race<'_>, witness: &Witness) -> Result<Cert, Memory>
     requires race { IsRace race.now }
     requires own { race.now.roots ≡ root_goals race.now.rule race.now.roll.now.c race.now.reported }
-    requires solved { IsSolved race.now.rule }
+    requires solved { HasMargins race.now.rule }
     requires others { 2 ≤ race.now.roll.now.c }
     requires start { IsStartWitness (election_of race.now) witness.now.goal witness.now.changes }
     requires met { IsMetBy (election_of race.now) witness.now.goal witness.now.changes }

@@ -2,7 +2,7 @@
 ghost use Rattle.std.specs.Prelude.{◌≤◌, IfOk};
 ghost use Rattle.ballot_form.specs.Rules.{IsRule};
 ghost use Rattle.cert_text.specs.CertText.{IsPrintable};
-ghost use Rattle.margin_solve.specs.Certificates.{IsCertOf, IsSolved};
+ghost use Rattle.margin_solve.specs.Certificates.{IsCertOf, HasMargins};
 
 use crate::certs::{fixed_cert, margin_cert};
 use crate::limits::LEAST_BUDGET;
@@ -17,7 +17,7 @@ use witness_build::start_witness;
 /// first pair that the fewest replacements bring level, and the ballots with the largest gains, lower numbers first. The budget is the most nodes of the tree; `LEAST_BUDGET` are enough for these rules.
 pub fn margin(alloc: Global, contest: &Contest, rule: Rule, budget: u32) -> Result<Cert, Memory>
     requires lawful { IsRule rule }
-    requires solved { IsSolved rule }
+    requires solved { HasMargins rule }
     requires enough { LEAST_BUDGET ≤ budget }
     requires most { budget ≤ MOST_BUDGET }
     ensures found { IfOk result (IsCertOf rule budget contest.now.roll) }

@@ -5,7 +5,7 @@ use Rattle.ballot_form.specs.declared.rule.Rule.{Rule}
 use Rattle.ballot_form.specs.declared.rule.Rule.TheVariants.{Plurality, Borda, Condorcet, Dhondt, Irv}
 use Rattle.ballot_form.specs.declared.rule.RuleName.{RuleName}
 use Rattle.ballot_form.specs.declared.rule.RuleName.TheVariants as named
-use Rattle.margin_solve.specs.Certificates.{IsSolved}
+use Rattle.margin_solve.specs.Certificates.{HasMargins}
 use Rattle.mov_run.specs.Words.{known_name}
 
 not_condorcet : (name : Option RuleName) → known_name name ≡ Some named.Condorcet → ⊥
@@ -24,7 +24,7 @@ not_irv (Some named.Condorcet) is = cc (is)
 not_irv (Some named.Dhondt) is = cc (is)
 not_irv (Some named.Irv) is = cc (is)
 
-pub solved_name : (name : Option RuleName) (rule : Rule) → known_name name ≡ Some (name_of_rule rule) → IsSolved rule
+pub solved_name : (name : Option RuleName) (rule : Rule) → known_name name ≡ Some (name_of_rule rule) → HasMargins rule
 solved_name name Plurality is = tt
 solved_name name Borda is = tt
 solved_name name Condorcet is = not_condorcet name is

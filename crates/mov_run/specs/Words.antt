@@ -6,7 +6,7 @@ use Rattle.ballot_form.specs.declared.rule.Rule.{Rule}
 use Rattle.ballot_form.specs.declared.rule.Rule.TheVariants.{Plurality, Borda, Condorcet, Dhondt, Irv}
 use Rattle.ballot_form.specs.declared.rule.RuleName.{RuleName}
 use Rattle.ballot_form.specs.declared.rule.RuleName.TheVariants as named
-use Rattle.margin_solve.specs.Certificates.{IsSolved}
+use Rattle.margin_solve.specs.Certificates.{HasMargins}
 use Rattle.text_lines.specs.Numbers.{numeral_of}
 use Rattle.text_lines.specs.declared.numbers.Numeral.{Numeral}
 use Rattle.text_lines.specs.declared.numbers.Numeral.TheVariants.{Number}
@@ -109,7 +109,7 @@ Reads words r = (r ≡ meaning words) ⊎ ((r ≡ Err Memory) × (IsNoCommand (m
 -- the rule has a lawful number of seats, and a margin's rule is one whose margins are computed
 abbrev pub IsLawful : Job → Type 0
 IsLawful (Tally rule file) = IsRule rule
-IsLawful (Margin rule file) = IsRule rule × IsSolved rule
+IsLawful (Margin rule file) = IsRule rule × HasMargins rule
 IsLawful job = Unit {0}
 
 -- the ballot file that the job reads

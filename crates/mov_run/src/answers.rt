@@ -1,7 +1,7 @@
 // The answer of each command.
 ghost use Rattle.std.specs.Prelude.{◌≡◌, IfOk};
 ghost use Rattle.ballot_form.specs.Rules.{IsRule};
-ghost use Rattle.margin_solve.specs.Certificates.{IsSolved};
+ghost use Rattle.margin_solve.specs.Certificates.{HasMargins};
 ghost use Rattle.mov_run.specs.Inputs.{found};
 ghost use Rattle.mov_run.specs.Jobs.{AnswersOrMemory};
 
@@ -48,7 +48,7 @@ pub(crate) fn margin_answer<F: Files>(
     files: &mut F,
 ) -> Result<Output, RunFault>
     requires lawful { IsRule rule }
-    requires solved { IsSolved rule }
+    requires solved { HasMargins rule }
     ensures answers { AnswersOrMemory
         (found F.told F.at F.begun F.faults files.old files.new) (Job.Margin rule file.now) result }
     ensures told { F.told files.new ≡ F.told files.old }
