@@ -1,8 +1,8 @@
 // The reported outcome of small contests, goals and their rows.
 ghost use Rattle.goal_rows.specs.Races.{IsRace};
 
-use crate::rolls::roll_of;
-use ballot_form::{Outcome, Roll, Rule};
+use crate::rolls::{cands, roll_of};
+use ballot_form::{MOST_CANDIDATES, Outcome, Ranking, Roll, Rule, valid_row};
 use goal_rows::parts::{Ground, Race};
 use goal_rows::{
     Goal, MOST_ROWS, cover, ground, is_complete, kid_count, race, reported, row_count, rows_hold,
@@ -74,11 +74,71 @@ fn ground_text(alloc: Global, start: &Ground) -> Result<String, Fail> {
     Ok(text)
 }
 
+/// The ground of a complete goal as text.
+fn complete_text(alloc: Global, race: &Race<'_>, goal: &Goal) -> Result<String, Fail>
+    requires { IsRace race.now }
+{
+    if !is_complete(race, goal) {
+        return Err("not complete".into());
+    }
+    ground_text(alloc, &ground(alloc, race, goal)?)
+}
+
 /// The ground of a pair as text.
 fn pair_text(alloc: Global, race: &Race<'_>, gainer: u8, loser: u8) -> Result<String, Fail>
     requires { IsRace race.now }
 {
-    ground_text(alloc, &ground(alloc, race, &Goal::Pair(gainer, loser))?)
+    complete_text(alloc, race, &Goal::Pair(gainer, loser))
+}
+
+/// The suffix of the candidates that letters stand for.
+fn suffix(alloc: Global, letters: &str) -> Result<Goal, Fail> {
+    let row = cands(alloc, letters)?;
+    if !valid_row(row.as_slice(), MOST_CANDIDATES) {
+        return Err("a candidate twice".into());
+    }
+    Ok(Goal::Suffix(Ranking::from_slice(alloc, row.as_slice())?))
+}
+
+#[test]
+fn suffixes_of_a_runoff(rt: HostRuntime) -> Result<(), Fail> {
+    let roll = roll_of(rt.alloc(), "3: 5 A, 4 BC, 2 CB, 1")?;
+    let race = race(rt.alloc(), Rule::Irv, &roll)?;
+    let goal = suffix(rt.alloc(), "CBA")?;
+    let text = complete_text(rt.alloc(), &race, &goal)?;
+    assert_eq!(rt; text.as_str(), "[2, 3, -1] 12 0 4:5 2:4 3:2 0:1");
+    assert_eq!(rt; holds(&race, &roll, &goal), Some(false));
+    let after = roll_of(rt.alloc(), "3: 6 A, 3 BC, 2 CB, 1")?;
+    assert_eq!(rt; holds(&race, &after, &goal), Some(true));
+    assert!(rt; !is_complete(&race, &suffix(rt.alloc(), "ACB")?));
+    assert_eq!(rt; kid_count(&race, &goal), None);
+    let last = suffix(rt.alloc(), "A")?;
+    assert!(rt; !is_complete(&race, &last));
+    assert_eq!(rt; kid_count(&race, &last), Some(2));
+    Ok(())
+}
+
+#[test]
+fn covers_of_a_cycle(rt: HostRuntime) -> Result<(), Fail> {
+    let roll = roll_of(rt.alloc(), "3: 1 ABC, 1 BCA, 1 CAB")?;
+    let race = race(rt.alloc(), Rule::Condorcet, &roll)?;
+    assert!(rt;
+        matches!(
+            race.roots.as_slice(),
+            [Goal::Cover(0), Goal::Cover(1), Goal::Cover(2)]
+        )
+    );
+    let goal = Goal::Cover(0);
+    let text = complete_text(rt.alloc(), &race, &goal)?;
+    assert_eq!(rt; text.as_str(), "[1, -1] 3 1 1:1 7:1 5:1");
+    assert_eq!(rt; holds(&race, &roll, &goal), Some(false));
+    let after = roll_of(rt.alloc(), "3: 1 ABC, 1 A, 1 CAB")?;
+    assert_eq!(rt; holds(&race, &after, &goal), Some(true));
+    assert_eq!(rt;
+        (row_count(&race, &goal), kid_count(&race, &goal)),
+        (2, None)
+    );
+    Ok(())
 }
 
 #[test]

@@ -243,6 +243,32 @@ fn verdicts_on_cycles(rt: HostRuntime) -> Result<(), Fail> {
     Ok(())
 }
 
+/// Two candidates, one replacement more than the bound, and a tree with a branch whose low half alone passes at three.
+#[test]
+fn limits_on_keys_and_arcs(rt: HostRuntime) -> Result<(), Fail> {
+    let head = "movcert 1\nrule irv\nsize 2 7\nreported 0\nbounds 3 4 budget 9\n";
+    let turn = "goal order 0 1\nput 1 1\nput 2 1\nput 3 1\nput 4 1\nsplit 1\nsplit 1\n";
+    for branch in ["branch arc 0 2 0\n", "branch from 1 1\n"] {
+        let ends = (2, "REFUSED 6 CutFails line 15\n", "");
+        says(
+            &rt,
+            rt.alloc(),
+            FIVE_TWO,
+            [head, turn, branch, "cut 1 2\ncut 1 0\n"],
+            ends,
+        )?;
+        let ends = (2, "REFUSED 6 CutFails line 14\n", "");
+        says(
+            &rt,
+            rt.alloc(),
+            FIVE_TWO,
+            [head, turn, branch, "cut 1 0\ncut 1 2\n"],
+            ends,
+        )?;
+    }
+    Ok(())
+}
+
 #[test]
 fn heads_and_ends_of_a_runoff(rt: HostRuntime) -> Result<(), Fail> {
     let rest = [RUNOFF_TURN, RUNOFF_TREE];
