@@ -1,6 +1,8 @@
 pub mod Sound
-pub mod Exact
 pub mod Sizes
 pub mod Sorting
-pub mod Gains
 pub mod Greedy
+pub mod Pairwise
+pub mod RoundSums
+pub mod ArcLists
+pub mod OldCosts
