@@ -35,17 +35,17 @@ arcs_more g m u x k arcs value number begins ends long is done =
     ∙ sym (map-append g (take k (arcs_of m)) (get_or (arcs_of m) k (u, x) ∷ []))
     ∙ ap (map g) (sym (take_more (arcs_of m) k (u, x) within))
 
+take_all : {X : Type 0} (k : ℕ) (xs : List X) → length xs ≤ k → take k xs ≡ xs
+take_all zero [] le = refl
+take_all zero (x ∷ xs) le = absurd (omega (arith, le))
+take_all (suc k) [] le = refl
+take_all {X = X} (suc k) (x ∷ xs) le = ap (λ (ys : List X). x ∷ ys) (take_all k xs (omega (arith, le)))
+
 -- what all arcs bring, where all are written
 pub arcs_end : (g : ℕ × ℕ → ℤ) (m k : ℕ) (arcs : List ℤ) → length arcs ≡ arc_total m → length arcs ≤ k → take k arcs ≡ map g (take k (arcs_of m)) → arcs ≡ map g (arcs_of m)
 arcs_end g m k arcs long past done =
     let all = length-arcs_of m in
     sym (take_all k arcs past) ∙ done ∙ ap (map g) (take_all k (arcs_of m) (omega (arith, all, long, past)))
-  where
-    take_all : {X : Type 0} (k : ℕ) (xs : List X) → length xs ≤ k → take k xs ≡ xs
-    take_all zero [] le = refl
-    take_all zero (x ∷ xs) le = absurd (omega (arith, le))
-    take_all (suc k) [] le = refl
-    take_all (suc k) (x ∷ xs) le = ap (λ (ys : List X). x ∷ ys) (take_all k xs (omega (arith, le)))
 
 -- without limits the rows alone are left
 pub no_limits_more : (m : ℕ) (rows : List ℕ) → map (λ a. rows_bring m rows a +ℤ limits_bring (is_arc a) [] []) (arcs_of m) ≡ row_arcs m rows

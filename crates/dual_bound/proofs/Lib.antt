@@ -6,3 +6,5 @@ pub mod Pairwise
 pub mod RoundSums
 pub mod ArcLists
 pub mod OldCosts
+pub mod GoalCases
+pub mod SortedGains

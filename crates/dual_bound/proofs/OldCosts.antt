@@ -1,8 +1,9 @@
 -- What an old ballot costs, read from the bits of its key.
-use Rattle.std.proofs.Common.{ℕ, zero, suc, ◌≡◌, ◌≢◌, ◌<◌, ◌≤◌, ◌+◌, ◌-◌, ◌*◌, List, [], ◌∷◌, length, get_or, drop, map, true, false, cond, refl, sym, ap, subst, ◌∙◌, arith}
+use Rattle.std.proofs.Common.{ℕ, zero, suc, ◌≡◌, ◌≢◌, ◌<◌, ◌≤◌, ◌+◌, ◌-◌, ◌*◌, List, [], ◌∷◌, length, get_or, drop, map, true, false, cond, refl, sym, ap, subst, ◌∙◌, inl, inr, arith}
 use Rattle.std.specs.Prelude.{ℤ, pos, ◌+ℤ◌, ◌*ℤ◌, ◌==◌, not, filter}
 use Rattle.std.specs.List.{range_with_len, zip}
 use Rattle.std.proofs.lemmas.Int.{ints}
+use Rattle.std.proofs.lemmas.Bool.{cases_lt}
 use Rattle.std.proofs.lemmas.Bool.Decides.{nat_tests}
 use Rattle.mov_base.specs.Sums.{sum_z}
 use Rattle.irv_count.specs.Orders.{stands}
@@ -84,3 +85,10 @@ cover_end c x key j row rows sum whole past so_far =
     let s = ap (λ n. rest_cost x key (drop row rows) (filter (λ k. not (k == x)) (range_with_len j n))) e in
     let z = zip_none (λ (v : ℕ × ℤ). pos v.0 *ℤ v.1) (drop row rows) in
     omega (arith, ints, s, z, so_far)
+
+-- the row that compares x with j is one of them
+pub row_within : (n x j row : ℕ) → j < n + 1 → x ≤ n → j ≢ x → (j ≤ x → row ≡ j) → (x < j → row + 1 ≡ j) → row < n
+row_within n x j row less within differ before behind = elim (cases_lt x j) [
+  | inl lt ↦ let e = behind lt in omega (arith, e, less)
+  | inr le ↦ let e = before le in omega (arith, e, le, within, differ)
+]

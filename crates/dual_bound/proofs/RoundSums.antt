@@ -2,6 +2,7 @@
 use Rattle.std.proofs.Common.{ℕ, zero, suc, ◌≡◌, ◌<◌, ◌≤◌, ◌+◌, ◌-◌, ◌*◌, ◌&&◌, List, [], ◌∷◌, ◌++◌, length, get_or, take, drop, map, cond, refl, sym, ap, ◌∙◌, ◌⊎◌, inl, inr, arith}
 use Rattle.std.specs.Prelude.{ℤ, pos, ◌+ℤ◌, ◌-ℤ◌, ◌*ℤ◌, ◌==◌, nat_lt, unsigned_abs}
 use Rattle.std.specs.List.{flat_map, range_with_len, zip}
+use Rattle.std.proofs.Math.Nat.{mul-le-mul_left}
 use Rattle.std.proofs.lemmas.Int.{ints}
 use Rattle.std.proofs.lemmas.Bool.{cases_eq, cases_lt}
 use Rattle.std.proofs.lemmas.Bool.Decides.{nat_tests}
@@ -111,6 +112,21 @@ round_over i u x ls less over within =
     let e : x - i - 1 ≡ x - (i + 1) = omega arith in
     rw e (sum_over i u x (i + 1) (length ls) ls less over (omega (arith, over)) (omega (arith, within)) (omega arith))
 
+-- ---- how many rows and arcs there are
+
+pub few_rows : (m : ℕ) → m ≤ 40 → arc_total (m - 1) ≤ 780
+few_rows m few =
+    let n = m - 1 in
+    let h : n + 1 ≤ 40 = omega (arith, few) in
+    let a = mul-le-mul_left n h in
+    omega (arith, a, few)
+
+pub few_arcs : (m : ℕ) → m ≤ 40 → arc_total m ≤ 820
+few_arcs m few =
+    let h : m + 1 ≤ 41 = omega (arith, few) in
+    let a = mul-le-mul_left m h in
+    omega (arith, a, few)
+
 -- ---- round after round
 
 -- the rows from round i on
@@ -142,33 +158,37 @@ first_next m i from less =
     let e : i + 1 - 1 ≡ suc (i - 1) = omega (arith, from) in
     rw e (omega (arith, from, less))
 
+length_drop : (n : ℕ) (xs : List ℕ) → length (drop n xs) ≡ length xs - n
+length_drop zero xs = omega arith
+length_drop (suc n) [] = omega arith
+length_drop (suc n) (x ∷ xs) = omega (arith, length_drop n xs)
+
+length_take : (n : ℕ) (xs : List ℕ) → n ≤ length xs → length (take n xs) ≡ n
+length_take zero xs le = refl
+length_take (suc n) [] le = absurd (omega (arith, le))
+length_take (suc n) (x ∷ xs) le = omega (arith, length_take n xs (omega (arith, le)))
+
 -- one round more
-pub rounds_more : (m i first : ℕ) (rows : List ℕ) (a : ℕ × ℕ) (sum step whole : ℤ) → i < m → first + (m - i) ≤ length rows
-    → step ≡ round_brings i (take (m - i) (drop first rows)) a
+pub rounds_more : (m i first next : ℕ) (rows round : List ℕ) (a : ℕ × ℕ) (sum step whole : ℤ) → i < m → first + (m - i) ≤ length rows
+    → next ≡ first + (m - i) → round ≡ take (m - i) (drop first rows) → step ≡ round_brings i round a
     → sum +ℤ sum_z (row_brings a) (zip (drop first rows) (rounds_from m i)) ≡ whole
-    → (sum +ℤ step) +ℤ sum_z (row_brings a) (zip (drop (first + (m - i)) rows) (rounds_from m (i + 1))) ≡ whole
-rounds_more m i first rows a sum step whole less fits is so_far =
+    → (sum +ℤ step) +ℤ sum_z (row_brings a) (zip (drop next rows) (rounds_from m (i + 1))) ≡ whole
+rounds_more m i first next rows part a sum step whole less fits next_is part_is is so_far =
     let n = m - i in
     let round = round_places i n in
+    let left_rows = drop first rows in
     let long : length round ≡ n = length-map (range_with_len (i + 1) n) (λ j. (i, j)) ∙ length-range_with_len (i + 1) n in
-    let left : length (drop first rows) ≡ length rows - first = length_drop first rows in
-    let s = zip_split (row_brings a) (drop first rows) round (rounds_from m (i + 1)) (omega (arith, long, left, fits)) in
-    let s1 = ap (λ (xs : List (ℕ × ℕ)). sum_z (row_brings a) (zip (drop first rows) xs)) (rounds_next m i less) in
-    let s2 = ap (λ k. sum_z (row_brings a) (zip (take k (drop first rows)) round)) long in
-    let s3 = ap (λ k. sum_z (row_brings a) (zip (drop k (drop first rows)) (rounds_from m (i + 1)))) long in
+    let left : length left_rows ≡ length rows - first = length_drop first rows in
+    let s = zip_split (row_brings a) left_rows round (rounds_from m (i + 1)) (omega (arith, long, left, fits)) in
+    let s1 = ap (λ (xs : List (ℕ × ℕ)). sum_z (row_brings a) (zip left_rows xs)) (rounds_next m i less) in
+    let s2 = ap (λ k. sum_z (row_brings a) (zip (take k left_rows) round)) long in
+    let s3 = ap (λ k. sum_z (row_brings a) (zip (drop k left_rows) (rounds_from m (i + 1)))) long in
     let s4 = ap (λ (ls : List ℕ). sum_z (row_brings a) (zip ls (rounds_from m (i + 1)))) (drop_twice first n rows) in
-    let t : length (take n (drop first rows)) ≡ n = length_take n (drop first rows) (omega (arith, left, fits)) in
-    let s5 = ap (λ k. sum_z (row_brings a) (zip (take n (drop first rows)) (round_places i k))) t in
-    omega (arith, ints, s, s1, s2, s3, s4, s5, is, so_far)
-  where
-    length_drop : (n : ℕ) (xs : List ℕ) → length (drop n xs) ≡ length xs - n
-    length_drop zero xs = omega arith
-    length_drop (suc n) [] = omega arith
-    length_drop (suc n) (x ∷ xs) = omega (arith, length_drop n xs)
-    length_take : (n : ℕ) (xs : List ℕ) → n ≤ length xs → length (take n xs) ≡ n
-    length_take zero xs le = refl
-    length_take (suc n) [] le = absurd (omega (arith, le))
-    length_take (suc n) (x ∷ xs) le = omega (arith, length_take n xs (omega (arith, le)))
+    let s6 = ap (λ k. sum_z (row_brings a) (zip (drop k rows) (rounds_from m (i + 1)))) next_is in
+    let t : length (take n left_rows) ≡ n = length_take n left_rows (omega (arith, left, fits)) in
+    let s5 = ap (λ k. sum_z (row_brings a) (zip (take n left_rows) (round_places i k))) t in
+    let is_all : step ≡ round_brings i (take n left_rows) a = is ∙ ap (λ ls. round_brings i ls a) part_is in
+    omega (arith, ints, s, s1, s2, s3, s4, s5, s6, is_all, so_far)
 
 pub rounds_end : (m i first : ℕ) (rows : List ℕ) (a : ℕ × ℕ) (sum whole : ℤ) → m ≤ i
     → sum +ℤ sum_z (row_brings a) (zip (drop first rows) (rounds_from m i)) ≡ whole → sum ≡ whole
@@ -179,3 +199,9 @@ rounds_end m i first rows a sum whole past so_far =
 
 pub rounds_start : (m : ℕ) (rows : List ℕ) (a : ℕ × ℕ) → pos 0 +ℤ sum_z (row_brings a) (zip rows (rounds_from m 1)) ≡ rows_bring m rows a
 rounds_start m rows a = omega (arith, ints)
+
+-- where all rounds are counted, all rows are
+pub first_end : (m i : ℕ) → 1 ≤ m → m ≤ i → i ≤ m → arcs_before (m - 1) (i - 1) ≡ arc_total (m - 1)
+first_end m i some past within =
+    let e : i - 1 ≡ m - 1 = omega (arith, past, within) in
+    ap (arcs_before (m - 1)) e ∙ arcs_before-all (m - 1)

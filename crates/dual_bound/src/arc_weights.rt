@@ -1,5 +1,5 @@
 // What the arcs of a suffix bring.
-ghost use Rattle.std.specs.Prelude.{◌≡◌, ◌≤◌, ◌<◌, ◌+◌, ◌-◌, ◌*◌, All, length, map, unsigned_abs, pos, ◌+ℤ◌, ◌≤ℤ◌};
+ghost use Rattle.std.specs.Prelude.{◌≡◌, ◌≤◌, ◌<◌, ◌+◌, ◌-◌, ◌*◌, ◌^◌, All, length, map, unsigned_abs, pos, ◌+ℤ◌, ◌≤ℤ◌};
 ghost use Rattle.sig_graph.specs.Paths.{IsBest, arc_at, arc_total, arcs_of};
 ghost use Rattle.signature_class.specs.declared.limits.TheConstants.{MOST_PLACES};
 ghost use Rattle.dual_bound.specs.Sizes.{AreNotWide, IsSmallArc};

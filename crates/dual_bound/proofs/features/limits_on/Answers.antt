@@ -1,5 +1,5 @@
-use Rattle.std.proofs.Common.{◌≡◌, ◌+◌, false, get_or, cond, rules, arith}
-use Rattle.std.specs.Prelude.{ℤ, pos}
+use Rattle.std.proofs.Common.{ℕ, ◌≡◌, ◌+◌, false, get_or, cond, arith}
+use Rattle.std.specs.Prelude.{pos}
 use Rattle.std.proofs.lemmas.Int.{ints}
 use Rattle.row_program.specs.declared.Feature.TheVariants.{From}
 use Rattle.row_program.specs.declared.Limit.{Limit}
