@@ -1,5 +1,5 @@
 // The gains of the classes of ballots.
-ghost use Rattle.std.specs.Prelude.{◌≡◌, ◌≤◌, ◌<◌, ◌+◌, ◌^◌, ℕ, List, All, length, map, unsigned_abs, pos, ◌≤ℤ◌};
+ghost use Rattle.std.specs.Prelude.{◌≡◌, ◌≤◌, ◌<◌, ◌+◌, ◌^◌, ℕ, List, All, length, map, unsigned_abs, pos, ◌≤ℤ◌, ◌*ℤ◌};
 ghost use Rattle.mov_base.specs.Sums.{add_up};
 ghost use Rattle.sig_graph.specs.Paths.{arc_total};
 ghost use Rattle.signature_class.specs.Classes.{IsGrouped};
@@ -56,9 +56,21 @@ pub(crate) fn best_new(
             let m = suffix.as_slice().len() as u8;
             best_of_arcs(m, rows, limits, bounds, arcs, cells)
         }
-        Goal::Pair(_, _) => i128::from(rows[0]) * i128::from(start.lone),
+        Goal::Pair(_, _) => best_of_pair(rows[0], start.lone),
         Goal::Cover(_) => total(rows) as i128,
     }
+}
+
+/// What the ballot that ranks a pair's gainer alone brings: the multiplier times its weight.
+fn best_of_pair(multiplier: u64, lone: i64) -> i128
+    requires multiplier { multiplier < WIDE }
+    requires lone_low { pos 0 ≤ℤ lone }
+    requires lone_high { lone ≤ℤ pos 1024 }
+    ensures value { result ≡ pos multiplier *ℤ lone }
+    ensures low { pos 0 ≤ℤ result }
+    ensures high { result ≤ℤ pos (2 ^ 86) }
+{
+    i128::from(multiplier) * i128::from(lone)
 }
 
 /// Writes, of a suffix, what each arc brings by the rows.

@@ -1,7 +1,6 @@
-use Rattle.std.proofs.Common.{◌≡◌, ◌≤◌, ◌+◌, ◌-◌, ◌^◌, length, take, drop, sym, ap, ◌∙◌, rules, arith}
-use Rattle.std.specs.Prelude.{ℤ, pos, unsigned_abs}
+use Rattle.std.proofs.Common.{◌≡◌, ◌≤◌, ◌+◌, ◌-◌, length, take, drop, ap, ◌∙◌, rules, arith}
 use Rattle.std.proofs.lemmas.Int.{ints}
-use Rattle.sig_graph.specs.Paths.{arc_total}
+use Rattle.std.proofs.lemmas.List.{length-take}
 use Rattle.dual_bound.specs.Weighing.{rows_bring}
 use Rattle.dual_bound.proofs.RoundSums.{few_rows, first_end, first_next, round_within, rounds_end, rounds_more}
 use Rattle.dual_bound.proofs.arc_weights.by_rows.Goals as goal
@@ -40,8 +39,12 @@ loop-i-preserved c =
     c.by_round-sum.ensures.value (omega (arith, ints, c.loop-i.invariant.total)) in
     let small = c.by_round-sum.ensures.small in
     let few = few_rows m c.requires.places in
-    let long : length (take (first + c.from.result - first) (drop first rows)) ≤ m - i = ? in
-    ?
+    let long = length-take (first + c.from.result - first) (drop first rows) in
+    record {
+      first = next ∙ ap (λ k. k + (m - i)) c.loop-i.invariant.first ∙ first_next m i c.loop-i.auto.i c.loop-i-test.true;
+      total = omega (arith, ints, t, c.loop-i.invariant.bound, few, enough, small, long, count);
+      bound = omega (arith, ints, c.loop-i.invariant.bound, few, enough, small, long, count, next);
+    }
 
 pub returns-clause-value : goal.returns-clause-value
 returns-clause-value c = rounds_end c.args.m c.loop-i.i c.loop-i.first c.args.rows.now (c.args.u, c.args.x) _ _ c.loop-i-test.false c.loop-i.invariant.total

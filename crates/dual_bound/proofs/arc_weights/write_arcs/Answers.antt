@@ -1,8 +1,7 @@
-use Rattle.std.proofs.Common.{ℕ, ◌≡◌, ◌<◌, ◌≤◌, ◌+◌, ◌-◌, ◌^◌, length, get_or, map, take, sym, ap, ◌∙◌, rules, arith}
+use Rattle.std.proofs.Common.{ℕ, ◌≡◌, ◌≤◌, ◌^◌, length, sym, arith}
 use Rattle.std.specs.Prelude.{ℤ, pos, ◌+ℤ◌, unsigned_abs}
 use Rattle.std.proofs.lemmas.Int.{ints}
 use Rattle.std.proofs.lemmas.List.{get_or_default}
-use Rattle.sig_graph.specs.Paths.{arcs_of}
 use Rattle.dual_bound.specs.Weighing.{is_arc, limits_bring, rows_bring}
 use Rattle.dual_bound.proofs.ArcLists.{arc_left, arcs_end, arcs_more}
 use Rattle.dual_bound.proofs.Pairwise.{after_set}

@@ -1,4 +1,4 @@
-use Rattle.std.proofs.Common.{rules, map, subst, ◌↔◌}
+use Rattle.std.proofs.Common.{ℕ, List, rules, map, subst, ◌↔◌}
 use Rattle.std.specs.Prelude.{IsTrue}
 use Rattle.std.proofs.lemmas.Int.{to_z-of_z}
 use Rattle.dual_bound.specs.Largest.{CutsAt}
@@ -9,7 +9,7 @@ use mir.Syntax.{w128}
 
 pub returns-clause-value : goal.returns-clause-value
 returns-clause-value c =
-    let gains = λ keys. map (gain_by c.weigh.result (cost_by c.args.start.now c.args.limits.now c.args.multipliers.now)) keys in
+    let gains = λ (keys : List ℕ). map (gain_by c.weigh.result (cost_by c.args.start.now c.args.limits.now c.args.multipliers.now)) keys in
     (c.weigh.result, c.weigh.ensures.best, λ keys same.
     let f : SFits w128 c.base.result = search rules in
     let h = simp to_z-of_z at (c.cuts_at.ensures.value _ (c.weigh.ensures.same keys same)) in
@@ -17,6 +17,6 @@ returns-clause-value c =
 
 pub returns-clause-room : goal.returns-clause-room
 returns-clause-room c =
-    let a = c.deref_mut.ensures.len in
-    let b = c.self.view_is in
-    let e = c.self-1 in ?
+    let a = c.deref_mut.ensures.writes_back in
+    let b = c.self-1.given in
+    let d = c.deref_mut.follows in ?
