@@ -1,8 +1,6 @@
 pub mod Sound
-pub mod Exact
 pub mod Sizes
 pub mod Sorting
-pub mod Gains
 pub mod Greedy
 pub mod Keyed
 pub mod Limits
@@ -10,3 +8,10 @@ pub mod PathArcs
 pub mod SuffixWeights
 pub mod Covers
 pub mod Suffixes
+pub mod Exact
+pub mod Pairwise
+pub mod RoundSums
+pub mod ArcLists
+pub mod OldCosts
+pub mod GoalCases
+pub mod SortedGains

@@ -1,3 +1,6 @@
 pub mod Largest
 pub mod CutTest
 pub mod Weighing
+pub mod WeighingParts
+pub mod Sizes
+pub mod Rooms

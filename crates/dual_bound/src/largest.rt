@@ -19,7 +19,7 @@ pub(crate) fn sort_classes(classes: &mut [(u128, u32)])
 fn greedy_sum(classes: &[(u128, u32)], k: u32) -> u128
     requires small { AreSmall classes.now }
     ensures value { result ≡ greedy k classes.now }
-    ensures high { result ≤ k * 2 ^ 80 }
+    ensures high { result ≤ k * 2 ^ 88 }
 {
     let mut total: u128 = 0;
     let mut left = k;
@@ -37,7 +37,7 @@ fn top_sum(classes: &[(u128, u32)], k: u32) -> u128
     requires order { IsDescending classes.now }
     requires enough { k ≤ add_up (λ p. p.1) classes.now }
     ensures value { (gains : List ℕ) → IsGrouped gains classes.now → result ≡ most k gains }
-    ensures high { result ≤ k * 2 ^ 80 }
+    ensures high { result ≤ k * 2 ^ 88 }
 {
     greedy_sum(classes, k)
 }

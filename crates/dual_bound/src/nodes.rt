@@ -29,10 +29,9 @@ pub fn cuts(
         (IsTrue result ↔ Cuts e (node_of start.now limits.now) multipliers.now t) }
     ensures room { scratch.new ≡ scratch.old }
 {
-    let _ = limits;
     match start.goal {
         Goal::Root => t == 0,
-        Goal::Pair(_, _) => scratch.cuts(start, multipliers[0], t),
+        _ => scratch.cuts(start, limits, multipliers, t),
     }
 }
 
@@ -47,9 +46,8 @@ pub fn bound_of(start: &Ground, limits: &[Limit], multipliers: &[u64], scratch: 
         IsBound e (node_of start.now limits.now) multipliers.now result }
     ensures room { scratch.new ≡ scratch.old }
 {
-    let _ = limits;
     match start.goal {
         Goal::Root => 0,
-        Goal::Pair(_, _) => scratch.bound_of(start, multipliers[0]),
+        _ => scratch.bound_of(start, limits, multipliers),
     }
 }

@@ -1,31 +1,39 @@
 // Room for the cut test.
-ghost use Rattle.std.specs.Prelude.{◌≡◌, ◌≤◌, ◌+◌, ◌<◌, ◌^◌, ◌↔◌, IsTrue, IfOk, ℕ, ℤ, List, length, map, pos, ◌*ℤ◌, slice_index_or};
+ghost use Rattle.std.specs.Prelude.{◌≡◌, ◌≤◌, ◌+◌, ◌↔◌, IsTrue, IfOk, ℕ, ℤ, List, length, map};
 ghost use Rattle.signature_class.specs.Classes.{IsGrouped};
-ghost use Rattle.dual_bound.specs.Largest.{CutsAt, IsGreatestCut, IsSmallPair, gain_under};
+ghost use Rattle.dual_bound.specs.CutTest.{AreMultipliers};
+ghost use Rattle.dual_bound.specs.Largest.{CutsAt, IsGreatestCut};
+ghost use Rattle.dual_bound.specs.Sizes.{AreSmallLimits, IsSmallGround};
+ghost use Rattle.dual_bound.specs.Weighing.{IsBestNew, base_by, cost_by, gain_by};
 
+use crate::bases::base;
 use crate::largest::{cuts_at, greatest_cut};
-use crate::pairs::{base, sorted_gains};
-use exact_num::WIDE;
+use crate::weighing::{Tables, weigh};
 use goal_rows::parts::Ground;
 use mov_base::Memory;
+use row_program::Limit;
 use std::alloc::Global;
 use std::marker::Model;
 
 /// The most classes of a node for which there is room.
 pub const MOST_CLASSES: usize = 4_096;
 
-/// Room for the gains of so many classes; contracts see it as their number.
+/// Room for the gains of so many classes, and for every suffix; contracts see it as the number of classes.
 #[derive(Drop)]
 pub struct Scratch {
     places: Vec<(u128, u32)>,
+    tables: Tables,
 }
 
 impl Model for Scratch {
     ghost use Rattle.std.specs.Prelude.{ℕ, length};
+    ghost use Rattle.dual_bound.specs.Rooms.{HasTables};
 
     ghost Value = { ℕ };
 
     ghost view = { λ scratch. length scratch.places.items };
+
+    ghost invariant = { λ scratch. HasTables scratch.tables };
 }
 
 impl Scratch {
@@ -41,38 +49,42 @@ impl Scratch {
         ensures { IfOk result (λ scratch. scratch ≡ count) }
     {
         let places = vec![in alloc; (0u128, 0u32); count]?;
-        Ok(Scratch { places })
+        let tables = Tables::new(alloc)?;
+        Ok(Scratch { places, tables })
     }
 
-    /// Whether the test of a pair passes at `t`.
-    pub(crate) fn cuts(&mut self, start: &Ground, multiplier: u64, t: u32) -> bool
-        requires small { IsSmallPair start.now }
-        requires multiplier { multiplier < WIDE }
+    /// Whether the test passes at `t`.
+    pub(crate) fn cuts(&mut self, start: &Ground, limits: &[Limit], multipliers: &[u64], t: u32) -> bool
+        requires ground { IsSmallGround start.now }
+        requires limits { AreSmallLimits limits.now }
+        requires multipliers { AreMultipliers start.now limits.now multipliers.now }
         requires room { length start.now.classes ≤ self.old }
         requires enough { t ≤ start.now.ballots + 1 }
-        ensures value { (keys : List ℕ) → IsGrouped keys start.now.classes → (IsTrue result
-            ↔ CutsAt (pos multiplier *ℤ slice_index_or start.now.sums 0 (pos 0))
-            (map (gain_under start.now.lone multiplier) keys) t) }
+        ensures value { (best : ℤ) × IsBestNew start.now limits.now multipliers.now best ×
+            ((keys : List ℕ) → IsGrouped keys start.now.classes → (IsTrue result
+            ↔ CutsAt (base_by start.now limits.now multipliers.now)
+            (map (gain_by best (cost_by start.now limits.now multipliers.now)) keys) t)) }
         ensures room { self.new ≡ self.old }
     {
         let places = &mut self.places[..start.classes.len()];
-        sorted_gains(start, multiplier, places);
-        cuts_at(base(start, multiplier), places, t)
+        weigh(start, limits, multipliers, &mut self.tables, places);
+        cuts_at(base(start, limits, multipliers), places, t)
     }
 
-    /// The greatest number at which the test of a pair passes.
-    pub(crate) fn bound_of(&mut self, start: &Ground, multiplier: u64) -> u32
-        requires small { IsSmallPair start.now }
-        requires multiplier { multiplier < WIDE }
+    /// The greatest number at which the test passes.
+    pub(crate) fn bound_of(&mut self, start: &Ground, limits: &[Limit], multipliers: &[u64]) -> u32
+        requires ground { IsSmallGround start.now }
+        requires limits { AreSmallLimits limits.now }
+        requires multipliers { AreMultipliers start.now limits.now multipliers.now }
         requires room { length start.now.classes ≤ self.old }
-        ensures value { (keys : List ℕ) → IsGrouped keys start.now.classes →
-            IsGreatestCut (pos multiplier *ℤ slice_index_or start.now.sums 0 (pos 0))
-            (map (gain_under start.now.lone multiplier) keys)
-            (start.now.ballots + 1) result }
+        ensures value { (best : ℤ) × IsBestNew start.now limits.now multipliers.now best ×
+            ((keys : List ℕ) → IsGrouped keys start.now.classes →
+            IsGreatestCut (base_by start.now limits.now multipliers.now)
+            (map (gain_by best (cost_by start.now limits.now multipliers.now)) keys) (start.now.ballots + 1) result) }
         ensures room { self.new ≡ self.old }
     {
         let places = &mut self.places[..start.classes.len()];
-        sorted_gains(start, multiplier, places);
-        greatest_cut(base(start, multiplier), places, start.ballots)
+        weigh(start, limits, multipliers, &mut self.tables, places);
+        greatest_cut(base(start, limits, multipliers), places, start.ballots)
     }
 }

@@ -6,4 +6,4 @@ abbrev pub invariant-loop-p : goal.invariant-loop-p
 invariant-loop-p l =
     (l.total + greedy l.left (drop l.p-index l.classes) ≡ greedy l.k l.classes)
     × (l.left ≤ l.k)
-    × (l.total ≤ (l.k - l.left) * 2 ^ 80)
+    × (l.total ≤ (l.k - l.left) * 2 ^ 88)

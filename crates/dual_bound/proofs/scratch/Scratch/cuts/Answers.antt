@@ -1,13 +1,22 @@
-use Rattle.std.proofs.Common.{rules, map, subst, ◌↔◌}
+use Rattle.std.proofs.Common.{ℕ, List, rules, map, subst, ◌↔◌}
 use Rattle.std.specs.Prelude.{IsTrue}
 use Rattle.std.proofs.lemmas.Int.{to_z-of_z}
-use Rattle.dual_bound.specs.Largest.{CutsAt, gain_under}
+use Rattle.dual_bound.specs.Largest.{CutsAt}
+use Rattle.dual_bound.specs.Weighing.{cost_by, gain_by}
 use Rattle.dual_bound.proofs.scratch.Scratch.cuts.Goals as goal
 use mir.Val.{SFits}
 use mir.Syntax.{w128}
 
 pub returns-clause-value : goal.returns-clause-value
-returns-clause-value c keys same =
+returns-clause-value c =
+    let gains = λ (keys : List ℕ). map (gain_by c.weigh.result (cost_by c.args.start.now c.args.limits.now c.args.multipliers.now)) keys in
+    (c.weigh.result, c.weigh.ensures.best, λ keys same.
     let f : SFits w128 c.base.result = search rules in
-    let h = simp to_z-of_z at (c.cuts_at.ensures.value _ (c.sorted_gains.ensures.same keys same)) in
-    subst (λ b. IsTrue c.cuts_at.result ↔ CutsAt b (map (gain_under c.args.start.now.lone c.args.multiplier) keys) c.args.t) c.base.ensures.value h
+    let h = simp to_z-of_z at (c.cuts_at.ensures.value _ (c.weigh.ensures.same keys same)) in
+    subst (λ b. IsTrue c.cuts_at.result ↔ CutsAt b (gains keys) c.args.t) c.base.ensures.value h)
+
+pub returns-clause-room : goal.returns-clause-room
+returns-clause-room c =
+    let a = c.deref_mut.ensures.writes_back in
+    let b = c.self-1.given in
+    let d = c.deref_mut.follows in ?
