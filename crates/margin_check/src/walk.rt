@@ -3,7 +3,8 @@ ghost use Rattle.std.specs.Prelude.{◌≡◌, ◌+◌, ◌++◌, ◌<◌, ◌�
 ghost use Rattle.bound_tree.specs.Nodes.{size};
 ghost use Rattle.bound_tree.specs.Plain.{kids_of, plain_of};
 ghost use Rattle.goal_rows.specs.Elections.{Election};
-ghost use Rattle.goal_rows.specs.Goals.{IsReached, cover_of};
+ghost use Rattle.goal_rows.specs.Goals.{cover_of};
+ghost use Rattle.goal_rows.specs.LongerKeys.{goals_of};
 ghost use Rattle.goal_rows.specs.Nodes.{AreLimits, IsFeatureOf, node_of, with_limit};
 ghost use Rattle.goal_rows.specs.Races.{IsGroundIn, IsRace, election_of};
 ghost use Rattle.goal_rows.specs.declared.goals.Goal.TheVariants.{Cover, Suffix};
@@ -15,7 +16,7 @@ ghost use Rattle.margin_check.specs.Walks.{EndsAt, FitsBelow, Gives, IsKnown};
 use bound_tree::{Multipliers, Tree};
 use dual_bound::{Scratch, cuts};
 use goal_rows::parts::{Ground, Race};
-use goal_rows::{Goal, cover, ground, kid_count, row_count};
+use goal_rows::{Goal, kid_count, kid_grounds, row_count};
 use mov_base::Memory;
 use row_program::{Feature, Limit};
 use std::alloc::Global;
@@ -69,12 +70,12 @@ pub(crate) fn walk(
         return Ok(End::Stopped(number));
     }
     match tree {
-        Tree::Split(kids) => match cover(alloc, race, &start.goal)? {
-            Some(goals) => walk_among(
+        Tree::Split(kids) => match kid_grounds(alloc, race, &start.goal)? {
+            Some(starts) => walk_among(
                 alloc,
                 race,
                 asked,
-                goals.as_slice(),
+                starts.as_slice(),
                 limits,
                 kids.as_slice(),
                 number + 1,
@@ -99,36 +100,35 @@ pub(crate) fn walk(
     }
 }
 
-/// Walks over the nodes of trees, one after another, each with its goal and without limits.
+/// Walks over the nodes of trees, one after another, each with the goal of its ground and without limits.
 #[cycle(walk)]
 fn walk_among(
     alloc: Global,
     race: &Race<'_>,
     asked: Asked,
-    goals: &[Goal],
+    starts: &[Ground],
     limits: &mut Vec<Limit>,
     kids: &[Tree],
     number: u32,
     scratch: &mut Scratch,
 ) -> Result<End, Memory>
     requires race { IsRace race.now }
-    requires same { length goals.now ≡ length kids.now }
+    requires same { length starts.now ≡ length kids.now }
     requires limits { limits.old.items ≡ [] }
-    requires reached { All (IsReached (election_of race.now)) goals.now }
+    requires starts { All (IsGroundIn (election_of race.now)) starts.now }
     requires fits { All (λ kid. FitsBelow 0 (plain_of kid)) kids.now }
     requires few { number + sum_by (λ kid. size (plain_of kid)) kids.now < 2 ^ 32 }
     requires known { All (IsKnown (election_of race.now) asked)
-        (visits_among (election_of race.now) goals.now (kids_of (map plain_of kids.now))) }
+        (visits_among (election_of race.now) (goals_of starts.now) (kids_of (map plain_of kids.now))) }
     requires room { length race.now.kinds ≤ scratch.old }
     ensures room { scratch.new ≡ scratch.old }
     ensures limits { IfOk result (λ end. limits.new.items ≡ limits.old.items) }
     ensures end { IfOk result (EndsAt (Gives (election_of race.now) asked) number
-        (visits_among (election_of race.now) goals.now (kids_of (map plain_of kids.now)))) }
+        (visits_among (election_of race.now) (goals_of starts.now) (kids_of (map plain_of kids.now)))) }
 {
     let mut next = number;
     for (i, kid) in kids.iter().enumerate() {
-        let start = ground(alloc, race, &goals[i])?;
-        match walk(alloc, race, asked, &start, limits, kid, next, scratch)? {
+        match walk(alloc, race, asked, &starts[i], limits, kid, next, scratch)? {
             End::Through(behind) => next = behind,
             End::Stopped(at) => return Ok(End::Stopped(at)),
         }

@@ -2,6 +2,7 @@ use Rattle.std.proofs.Common.{◌≡◌, ◌+◌, ◌*◌, ◌≤◌, [], All, t
 use Rattle.std.specs.Prelude.{sum_by}
 use Rattle.bound_tree.specs.Nodes.{size}
 use Rattle.bound_tree.specs.Plain.{kids_of, plain_of}
+use Rattle.goal_rows.specs.LongerKeys.{goals_of}
 use Rattle.goal_rows.specs.Races.{election_of}
 use Rattle.margin_check.specs.Visits.{visits_among}
 use Rattle.margin_check.specs.Walks.{EndsAt, Gives, IsKnown}
@@ -26,7 +27,7 @@ invariant-walk_among-loop-i l = record {
   room : l.scratch ≡ l.initial.scratch;
   limits : l.limits.items ≡ [];
   few : l.next ≤ l.number + sum_by (λ kid. size (plain_of kid)) (take l.i l.kids);
-  known : All (IsKnown (election_of l.race) l.asked) (rest_of (election_of l.race) l.goals l.kids l.i);
-  rest : (end : End) → EndsAt (Gives (election_of l.race) l.asked) l.next (rest_of (election_of l.race) l.goals l.kids l.i) end
-      → EndsAt (Gives (election_of l.race) l.asked) l.number (visits_among (election_of l.race) l.goals (kids_of (map plain_of l.kids))) end;
+  known : All (IsKnown (election_of l.race) l.asked) (rest_of (election_of l.race) (goals_of l.starts) l.kids l.i);
+  rest : (end : End) → EndsAt (Gives (election_of l.race) l.asked) l.next (rest_of (election_of l.race) (goals_of l.starts) l.kids l.i) end
+      → EndsAt (Gives (election_of l.race) l.asked) l.number (visits_among (election_of l.race) (goals_of l.starts) (kids_of (map plain_of l.kids))) end;
 }
