@@ -1,6 +1,6 @@
 -- What the multipliers of a node make of its rows and limits: the value before any replacement, what each arc or the
 -- best new ballot brings, and what an old ballot costs, by its key.
-use Rattle.std.specs.Prelude.{◌≡◌, ℕ, ◌+◌, ◌-◌, ◌==◌, ◌&&◌, Bool, true, false, List, map, filter, take, drop, length, slice_index, if◌then◌else◌, unsigned_abs, ℤ, pos, ◌+ℤ◌, ◌-ℤ◌, ◌*ℤ◌}
+use Rattle.std.specs.Prelude.{◌≡◌, ℕ, ◌+◌, ◌-◌, ◌==◌, ◌&&◌, Bool, false, List, map, filter, take, drop, length, slice_index, if◌then◌else◌, unsigned_abs, ℤ, pos, ◌+ℤ◌, ◌-ℤ◌, ◌*ℤ◌}
 use Rattle.std.specs.Int.{int_max}
 use Rattle.std.specs.List.{flat_map, range_with_len, zip}
 use Rattle.mov_base.specs.Sums.{add_up, sum_z}
@@ -12,7 +12,6 @@ use Rattle.sig_graph.specs.Paths.{IsBest, arcs_of, path_sum}
 use Rattle.sig_graph.specs.Rows.{one_where, row_weight_of}
 use Rattle.goal_rows.specs.KeyCounts.{is_over}
 use Rattle.goal_rows.specs.Suffixes.{others}
-use Rattle.goal_rows.specs.declared.goals.Goal.{Goal}
 use Rattle.goal_rows.specs.declared.goals.Goal.TheVariants.{Root, Suffix, Pair, Cover}
 use Rattle.goal_rows.specs.declared.parts.Ground.{Ground}
 
