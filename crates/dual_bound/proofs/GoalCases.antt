@@ -1,5 +1,5 @@
 -- What multipliers make of a goal's rows, by the kind of goal.
-use Rattle.std.proofs.Common.{ℕ, ◌≡◌, ◌+◌, List, length, map, sym, refl, ap, subst, ◌∙◌}
+use Rattle.std.proofs.Common.{ℕ, ◌≡◌, ◌+◌, List, length, map, sym, ap, subst, ◌∙◌}
 use Rattle.std.specs.Prelude.{ℤ, pos, ◌-ℤ◌, ◌*ℤ◌, slice_index}
 use Rattle.std.proofs.lemmas.List.{length-map}
 use Rattle.mov_base.specs.Sums.{add_up}

@@ -1,4 +1,5 @@
 pub mod Sound
+pub mod Exact
 pub mod Sizes
 pub mod Sorting
 pub mod Greedy
@@ -8,10 +9,10 @@ pub mod PathArcs
 pub mod SuffixWeights
 pub mod Covers
 pub mod Suffixes
-pub mod Exact
 pub mod Pairwise
 pub mod RoundSums
 pub mod ArcLists
 pub mod OldCosts
 pub mod GoalCases
 pub mod SortedGains
+pub mod SmallGrounds

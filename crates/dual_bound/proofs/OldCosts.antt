@@ -1,14 +1,12 @@
 -- What an old ballot costs, read from the bits of its key.
-use Rattle.std.proofs.Common.{ℕ, zero, suc, ◌≡◌, ◌≢◌, ◌<◌, ◌≤◌, ◌+◌, ◌-◌, ◌*◌, List, [], ◌∷◌, length, get_or, drop, map, true, false, cond, refl, sym, ap, subst, ◌∙◌, inl, inr, arith}
+use Rattle.std.proofs.Common.{ℕ, suc, ◌≡◌, ◌≢◌, ◌<◌, ◌≤◌, ◌+◌, ◌-◌, List, ◌∷◌, length, get_or, drop, map, true, false, cond, ap, ◌∙◌, inl, inr, arith}
 use Rattle.std.specs.Prelude.{ℤ, pos, ◌+ℤ◌, ◌*ℤ◌, ◌==◌, not, filter}
-use Rattle.std.specs.List.{range_with_len, zip}
+use Rattle.std.specs.List.{range_with_len}
 use Rattle.std.proofs.lemmas.Int.{ints}
 use Rattle.std.proofs.lemmas.Bool.{cases_lt}
 use Rattle.std.proofs.lemmas.Bool.Decides.{nat_tests}
-use Rattle.mov_base.specs.Sums.{sum_z}
 use Rattle.irv_count.specs.Orders.{stands}
 use Rattle.sig_graph.specs.Paths.{path_sum, weight_at}
-use Rattle.goal_rows.specs.Suffixes.{others}
 use Rattle.dual_bound.specs.Weighing.{over_weight, places_by, times_all}
 use Rattle.dual_bound.proofs.Pairwise.{zip_none, zip_rest}
 

@@ -1,12 +1,11 @@
 -- Sums over two lists side by side, as loops make them: one place after another.
-use Rattle.std.proofs.Common.{ℕ, zero, suc, ◌≡◌, ◌<◌, ◌≤◌, ◌+◌, ◌-◌, ◌*◌, List, [], ◌∷◌, ◌++◌, length, get_or, take, drop, get_or-set_other, get_or-set_same, map, inl, inr, ◌≢◌, refl, sym, ap, subst, ◌∙◌, add-one, drop-cons, arith}
-use Rattle.std.specs.Prelude.{ℤ, pos, ◌+ℤ◌, ◌*ℤ◌, unsigned_abs}
-use Rattle.std.specs.List.{All, zip}
+use Rattle.std.proofs.Common.{ℕ, zero, suc, ◌≡◌, ◌<◌, ◌≤◌, ◌+◌, List, [], ◌∷◌, ◌++◌, length, get_or, take, drop, get_or-set_other, get_or-set_same, map, inl, inr, ◌≢◌, refl, sym, ap, subst, ◌∙◌, add-one, drop-cons, arith}
+use Rattle.std.specs.Prelude.{ℤ, pos, ◌+ℤ◌, ◌*ℤ◌}
+use Rattle.std.specs.List.{zip}
 use Rattle.std.proofs.lemmas.Bool.{cases_lt}
 use Rattle.std.proofs.lemmas.Int.{ints}
 use Rattle.std.proofs.Math.ListN.{set}
 use Rattle.mov_base.specs.Sums.{add_up, sum_z}
-use Rattle.exact_num.specs.declared.limits.TheConstants.{WIDE}
 use Rattle.row_program.specs.declared.Limit.{Limit}
 use Rattle.dual_bound.specs.Sizes.{AreNotWide}
 use Rattle.dual_bound.specs.Weighing.{limit_start, times_all}

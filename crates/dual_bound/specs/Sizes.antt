@@ -1,5 +1,5 @@
 -- The sizes of what the test works on: a ground of any election has them.
-use Rattle.std.specs.Prelude.{◌≡◌, ℕ, ◌+◌, ◌-◌, ◌*◌, ◌^◌, ◌<◌, ◌≤◌, List, All, length, unsigned_abs, ℤ, pos, ◌≤ℤ◌}
+use Rattle.std.specs.Prelude.{◌≡◌, ℕ, ◌-◌, ◌^◌, ◌<◌, ◌≤◌, List, All, length, unsigned_abs, ℤ, pos, ◌≤ℤ◌}
 use Rattle.mov_base.specs.Sums.{add_up}
 use Rattle.ballot_form.specs.declared.limits.TheConstants.{MOST_BALLOTS}
 use Rattle.exact_num.specs.declared.limits.TheConstants.{WIDE}

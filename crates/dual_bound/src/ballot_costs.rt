@@ -21,7 +21,7 @@ use sig_graph::arc_index;
 
 /// What a ballot of this key costs where it is replaced. `arcs` has for a suffix what each arc brings by the rows.
 pub(crate) fn cost(start: &Ground, limits: &[Limit], multipliers: &[u64], arcs: &[i128], key: u64) -> i128
-    requires ground { IsSmallGround start.now }
+    requires start { IsSmallGround start.now }
     requires few { length limits.now ≤ MOST_LIMITS }
     requires multipliers { AreMultipliers start.now limits.now multipliers.now }
     requires arcs { (suffix : List ℕ) → start.now.goal ≡ Suffix suffix →
@@ -37,7 +37,7 @@ pub(crate) fn cost(start: &Ground, limits: &[Limit], multipliers: &[u64], arcs: 
 
 /// What a ballot of this key counts in the rows, times their multipliers.
 fn rows_cost(start: &Ground, rows: &[u64], arcs: &[i128], key: u64) -> i128
-    requires ground { IsSmallGround start.now }
+    requires start { IsSmallGround start.now }
     requires one_each { length rows.now ≡ length start.now.sums }
     requires rows { AreNotWide rows.now }
     requires arcs { (suffix : List ℕ) → start.now.goal ≡ Suffix suffix → arcs.now ≡ row_arcs (length suffix) rows.now }

@@ -44,7 +44,7 @@ pub(crate) fn total(multipliers: &[u64]) -> u128
 
 /// The values of the goal's rows and of the limits before any replacement, times their multipliers.
 pub(crate) fn base(start: &Ground, limits: &[Limit], multipliers: &[u64]) -> i128
-    requires ground { IsSmallGround start.now }
+    requires start { IsSmallGround start.now }
     requires limits { AreSmallLimits limits.now }
     requires multipliers { AreMultipliers start.now limits.now multipliers.now }
     ensures value { result ≡ base_by start.now limits.now multipliers.now }

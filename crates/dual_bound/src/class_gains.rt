@@ -39,7 +39,7 @@ pub(crate) fn best_new(
     arcs: &mut [i128],
     cells: &mut [i128],
 ) -> i128
-    requires ground { IsSmallGround start.now }
+    requires start { IsSmallGround start.now }
     requires few { length limits.now ≤ MOST_LIMITS }
     requires multipliers { AreMultipliers start.now limits.now multipliers.now }
     requires arcs { length arcs.old ≡ arc_total (goal_places start.now.goal) }
@@ -75,7 +75,7 @@ fn best_of_pair(multiplier: u64, lone: i64) -> i128
 
 /// Writes, of a suffix, what each arc brings by the rows.
 pub(crate) fn write_row_arcs(start: &Ground, multipliers: &[u64], arcs: &mut [i128])
-    requires ground { IsSmallGround start.now }
+    requires start { IsSmallGround start.now }
     requires rows { length start.now.sums ≤ length multipliers.now }
     requires multipliers { All (λ l. l < WIDE) multipliers.now }
     requires arcs { length arcs.old ≡ arc_total (goal_places start.now.goal) }
@@ -102,7 +102,7 @@ pub(crate) fn sorted_gains(
     arcs: &[i128],
     places: &mut [(u128, u32)],
 )
-    requires ground { IsSmallGround start.now }
+    requires start { IsSmallGround start.now }
     requires few { length limits.now ≤ MOST_LIMITS }
     requires multipliers { AreMultipliers start.now limits.now multipliers.now }
     requires low { pos 0 ≤ℤ best }
@@ -130,7 +130,7 @@ fn write_gains(
     arcs: &[i128],
     places: &mut [(u128, u32)],
 )
-    requires ground { IsSmallGround start.now }
+    requires start { IsSmallGround start.now }
     requires few { length limits.now ≤ MOST_LIMITS }
     requires multipliers { AreMultipliers start.now limits.now multipliers.now }
     requires low { pos 0 ≤ℤ best }

@@ -6,9 +6,7 @@ ghost use Rattle.dual_bound.specs.Largest.{CutsAt, IsGreatestCut};
 ghost use Rattle.dual_bound.specs.Sizes.{AreSmallLimits, IsSmallGround};
 ghost use Rattle.dual_bound.specs.Weighing.{IsBestNew, base_by, cost_by, gain_by};
 
-use crate::bases::base;
-use crate::largest::{cuts_at, greatest_cut};
-use crate::weighing::{Tables, weigh};
+use crate::weighing::{Tables, bound_in_room, cuts_in_room};
 use goal_rows::parts::Ground;
 use mov_base::Memory;
 use row_program::Limit;
@@ -55,7 +53,7 @@ impl Scratch {
 
     /// Whether the test passes at `t`.
     pub(crate) fn cuts(&mut self, start: &Ground, limits: &[Limit], multipliers: &[u64], t: u32) -> bool
-        requires ground { IsSmallGround start.now }
+        requires start { IsSmallGround start.now }
         requires limits { AreSmallLimits limits.now }
         requires multipliers { AreMultipliers start.now limits.now multipliers.now }
         requires room { length start.now.classes ≤ self.old }
@@ -66,14 +64,12 @@ impl Scratch {
             (map (gain_by best (cost_by start.now limits.now multipliers.now)) keys) t)) }
         ensures room { self.new ≡ self.old }
     {
-        let places = &mut self.places[..start.classes.len()];
-        weigh(start, limits, multipliers, &mut self.tables, places);
-        cuts_at(base(start, limits, multipliers), places, t)
+        cuts_in_room(start, limits, multipliers, t, &mut self.tables, &mut self.places)
     }
 
     /// The greatest number at which the test passes.
     pub(crate) fn bound_of(&mut self, start: &Ground, limits: &[Limit], multipliers: &[u64]) -> u32
-        requires ground { IsSmallGround start.now }
+        requires start { IsSmallGround start.now }
         requires limits { AreSmallLimits limits.now }
         requires multipliers { AreMultipliers start.now limits.now multipliers.now }
         requires room { length start.now.classes ≤ self.old }
@@ -83,8 +79,6 @@ impl Scratch {
             (map (gain_by best (cost_by start.now limits.now multipliers.now)) keys) (start.now.ballots + 1) result) }
         ensures room { self.new ≡ self.old }
     {
-        let places = &mut self.places[..start.classes.len()];
-        weigh(start, limits, multipliers, &mut self.tables, places);
-        greatest_cut(base(start, limits, multipliers), places, start.ballots)
+        bound_in_room(start, limits, multipliers, &mut self.tables, &mut self.places)
     }
 }

@@ -8,7 +8,7 @@ use mir.Syntax.{w128}
 pub returns-clause-counted : goal.returns-clause-counted
 returns-clause-counted c =
     let cost = cost_by c.args.start.now c.args.limits.now c.args.multipliers.now in
-    counted_sorted _ cost c.args.start.now.ballots c.args.start.now.classes _ _ c.write_gains.ensures.value c.sort_classes.ensures.same c.requires.ground.counted
+    counted_sorted _ cost c.args.start.now.ballots c.args.start.now.classes _ _ c.write_gains.ensures.value c.sort_classes.ensures.same c.requires.start.counted
 
 pub returns-clause-same : goal.returns-clause-same
 returns-clause-same c keys same =

@@ -3,7 +3,7 @@ use Rattle.std.specs.Prelude.{IsTrue}
 use Rattle.std.proofs.lemmas.Int.{to_z-of_z}
 use Rattle.dual_bound.specs.Largest.{CutsAt}
 use Rattle.dual_bound.specs.Weighing.{cost_by, gain_by}
-use Rattle.dual_bound.proofs.scratch.Scratch.cuts.Goals as goal
+use Rattle.dual_bound.proofs.weighing.cuts_in_room.Goals as goal
 use mir.Val.{SFits}
 use mir.Syntax.{w128}
 
@@ -14,9 +14,3 @@ returns-clause-value c =
     let f : SFits w128 c.base.result = search rules in
     let h = simp to_z-of_z at (c.cuts_at.ensures.value _ (c.weigh.ensures.same keys same)) in
     subst (λ b. IsTrue c.cuts_at.result ↔ CutsAt b (gains keys) c.args.t) c.base.ensures.value h)
-
-pub returns-clause-room : goal.returns-clause-room
-returns-clause-room c =
-    let a = c.deref_mut.ensures.writes_back in
-    let b = c.self-1.given in
-    let d = c.deref_mut.follows in ?
