@@ -103,12 +103,12 @@ returns c =
     let shape = came_through p cert race so.same Shape c.in_ok-number.field-0 c.in_ok-number.ensures.end c.in_default.field-0 c.in_default.is in
     let cuts = cuts_hold p cert race so.same c.level.result c.in_ok-number-2.field-0 c.in_ok-number-2.ensures.end
     (c.level.ensures ∙ ap (λ n. level_of n cert.claim) c.len-2.ensures.value) c.in_default-2.field-0 c.in_default-2.is in
-      record {
-        head = so.sizes;
-        reported = so.reported;
-        alteration = so.alteration;
-        claim = so.claim.0 c.if-not-holds.false;
-        shape = shape;
-        cuts = cuts;
-        numbers = c.has_order.ensures.0 c.if-not-has_order.false;
-      }
+    record {
+      head = so.sizes;
+      reported = so.reported;
+      alteration = so.alteration;
+      claim = so.claim.0 c.if-not-holds.false;
+      shape = shape;
+      cuts = cuts;
+      numbers = c.has_order.ensures.0 c.if-not-has_order.false;
+    }

@@ -38,13 +38,13 @@ walk-walk_among-requires t c =
               (
                 fits_kids (length c.args.limits.now.items) c.args.tree.now c.in-Split.kids c.as_slice-in-Some-2.result.now c.in-Split.is c.as_slice-in-Some-2.ensures c.requires.fits,
                 (
-                search (rules, size_Split),
-                (
-                  known_below e c.args.asked node c.args.tree.now _
-                      (over_split e node c.args.tree.now c.in-Split.kids c.as_slice-in-Some-2.result.now (goals_of c.in-Some.starts) (goals_of c.as_slice-in-Some.result.now) c.in-Split.is covered (ap goals_of c.as_slice-in-Some.ensures) c.as_slice-in-Some-2.ensures)
-                      c.requires.known,
-                  search rules,
-                ),
+                  search (rules, size_Split),
+                  (
+                    known_below e c.args.asked node c.args.tree.now _
+                        (over_split e node c.args.tree.now c.in-Split.kids c.as_slice-in-Some-2.result.now (goals_of c.in-Some.starts) (goals_of c.as_slice-in-Some.result.now) c.in-Split.is covered (ap goals_of c.as_slice-in-Some.ensures) c.as_slice-in-Some-2.ensures)
+                        c.requires.known,
+                    search rules,
+                  ),
                 ),
               ),
             ),
@@ -155,11 +155,11 @@ walk_among-walk-requires t c =
             (
               kid_below c.args.kids.now c.loop-i.i c.index-kids-i.result c.loop-i.limits.items c.loop-i-test.true c.index-kids-i.is free c.requires.fits,
               (
-              kid_fits c.args.kids.now c.loop-i.i c.args.number c.loop-i.next c.index-kids-i.result c.loop-i-test.true c.index-kids-i.is c.loop-i.invariant.few c.requires.few,
-              (
-                subst (λ n. All (IsKnown e c.args.asked) (visits e n (plain_of c.index-kids-i.result))) (sym node) known.0,
-                search rules,
-              ),
+                kid_fits c.args.kids.now c.loop-i.i c.args.number c.loop-i.next c.index-kids-i.result c.loop-i-test.true c.index-kids-i.is c.loop-i.invariant.few c.requires.few,
+                (
+                  subst (λ n. All (IsKnown e c.args.asked) (visits e n (plain_of c.index-kids-i.result))) (sym node) known.0,
+                  search rules,
+                ),
               ),
             ),
           ),
