@@ -9,8 +9,8 @@ ghost use Rattle.dual_bound.specs.Sizes.{AreNotWide, IsSmallArc, IsSmallGround};
 ghost use Rattle.dual_bound.specs.Weighing.{cost_by, of_rows as rows_part, over_weight, places_by, row_arcs};
 ghost use Rattle.dual_bound.specs.Weighing.{rows_cost as rows_cost_by, times_all};
 
-use crate::features::limits_on;
 use crate::bases::{of_limits, of_rows};
+use crate::features::limits_on;
 use ballot_form::Cand;
 use exact_num::WIDE;
 use goal_rows::Goal;
@@ -20,7 +20,13 @@ use row_program::{Feature, Limit, MOST_LIMITS};
 use sig_graph::arc_index;
 
 /// What a ballot of this key costs where it is replaced. `arcs` has for a suffix what each arc brings by the rows.
-pub(crate) fn cost(start: &Ground, limits: &[Limit], multipliers: &[u64], arcs: &[i128], key: u64) -> i128
+pub(crate) fn cost(
+    start: &Ground,
+    limits: &[Limit],
+    multipliers: &[u64],
+    arcs: &[i128],
+    key: u64,
+) -> i128
     requires start { IsSmallGround start.now }
     requires few { length limits.now ≤ MOST_LIMITS }
     requires multipliers { AreMultipliers start.now limits.now multipliers.now }

@@ -8,8 +8,8 @@ ghost use Rattle.dual_bound.specs.Sizes.{AreNotWide, AreSmallLimits, IsSmallGrou
 ghost use Rattle.dual_bound.specs.Weighing.{base_by, limit_start, of_limits as limits_part, of_rows as rows_part, times_all};
 
 use exact_num::WIDE;
-use goal_rows::parts::Ground;
 use goal_rows::MOST_ROWS;
+use goal_rows::parts::Ground;
 use row_program::{Limit, MOST_LIMITS};
 
 /// The multipliers of the goal's rows.

@@ -12,8 +12,8 @@ ghost use Rattle.dual_bound.specs.WeighingParts.{gains_by};
 
 use crate::arc_weights::{best_of_arcs, write_arcs};
 use crate::ballot_costs::cost;
-use crate::largest::sort_classes;
 use crate::bases::{of_limits, of_rows, total};
+use crate::largest::sort_classes;
 use exact_num::WIDE;
 use goal_rows::Goal;
 use goal_rows::parts::Ground;

@@ -52,7 +52,13 @@ impl Scratch {
     }
 
     /// Whether the test passes at `t`.
-    pub(crate) fn cuts(&mut self, start: &Ground, limits: &[Limit], multipliers: &[u64], t: u32) -> bool
+    pub(crate) fn cuts(
+        &mut self,
+        start: &Ground,
+        limits: &[Limit],
+        multipliers: &[u64],
+        t: u32,
+    ) -> bool
         requires start { IsSmallGround start.now }
         requires limits { AreSmallLimits limits.now }
         requires multipliers { AreMultipliers start.now limits.now multipliers.now }
@@ -64,7 +70,14 @@ impl Scratch {
             (map (gain_by best (cost_by start.now limits.now multipliers.now)) keys) t)) }
         ensures room { self.new ≡ self.old }
     {
-        cuts_in_room(start, limits, multipliers, t, &mut self.tables, &mut self.places)
+        cuts_in_room(
+            start,
+            limits,
+            multipliers,
+            t,
+            &mut self.tables,
+            &mut self.places,
+        )
     }
 
     /// The greatest number at which the test passes.
@@ -79,6 +92,12 @@ impl Scratch {
             (map (gain_by best (cost_by start.now limits.now multipliers.now)) keys) (start.now.ballots + 1) result) }
         ensures room { self.new ≡ self.old }
     {
-        bound_in_room(start, limits, multipliers, &mut self.tables, &mut self.places)
+        bound_in_room(
+            start,
+            limits,
+            multipliers,
+            &mut self.tables,
+            &mut self.places,
+        )
     }
 }

@@ -121,8 +121,21 @@ fn weigh(
         IsGrouped (map (gain_by result (cost_by start.now limits.now multipliers.now)) keys) places.new }
     ensures tables { HasTables tables.new }
 {
-    let best = best_in_room(start, limits, multipliers, &mut tables.arcs, &mut tables.cells);
-    gains_in_room(start, limits, multipliers, best, &mut tables.row_arcs, places);
+    let best = best_in_room(
+        start,
+        limits,
+        multipliers,
+        &mut tables.arcs,
+        &mut tables.cells,
+    );
+    gains_in_room(
+        start,
+        limits,
+        multipliers,
+        best,
+        &mut tables.row_arcs,
+        places,
+    );
     best
 }
 

@@ -9,8 +9,11 @@ use mir.Syntax.{w128}
 
 pub returns-clause-value : goal.returns-clause-value
 returns-clause-value c =
-    let gains = λ (keys : List ℕ). map (gain_by c.weigh.result (cost_by c.args.start.now c.args.limits.now c.args.multipliers.now)) keys in
-    (c.weigh.result, c.weigh.ensures.best, λ keys same.
-    let f : SFits w128 c.base.result = search rules in
-    let h = simp to_z-of_z at (c.cuts_at.ensures.value _ (c.weigh.ensures.same keys same)) in
-    subst (λ b. IsTrue c.cuts_at.result ↔ CutsAt b (gains keys) c.args.t) c.base.ensures.value h)
+    let gains = λ (keys : List ℕ). map (gain_by c.weigh.result (cost_by c.args.start.now c.args.limits.now c.args.multipliers.now)) keys in (
+      c.weigh.result,
+      c.weigh.ensures.best,
+      λ keys same.
+          let f : SFits w128 c.base.result = search rules in
+          let h = simp to_z-of_z at (c.cuts_at.ensures.value _ (c.weigh.ensures.same keys same)) in
+          subst (λ b. IsTrue c.cuts_at.result ↔ CutsAt b (gains keys) c.args.t) c.base.ensures.value h,
+    )
