@@ -1,14 +1,12 @@
 -- What each arc brings, written arc by arc.
 use Rattle.std.proofs.Common.{ℕ, zero, suc, ◌≡◌, ◌<◌, ◌≤◌, ◌+◌, List, [], ◌∷◌, ◌++◌, length, get_or, take, map, refl, sym, ap, subst, ◌∙◌, Some, inl, inr, arith}
-use Rattle.std.specs.Prelude.{ℤ, pos, ◌+ℤ◌, slice_get}
-use Rattle.std.proofs.lemmas.Int.{ints}
+use Rattle.std.specs.Prelude.{ℤ, slice_get}
 use Rattle.std.proofs.lemmas.Bool.{cases_lt}
 use Rattle.std.proofs.lemmas.List.{map-append, take_more, take_more_set}
 use Rattle.std.proofs.lemmas.Option.{get_or_from_slice_get, slice_get_within}
 use Rattle.std.proofs.Math.ListN.{set}
 use Rattle.sig_graph.specs.Paths.{arc_at, arc_total, arcs_before, arcs_of}
 use Rattle.sig_graph.proofs.ArcNumbers.{arcs_before-all, get-arcs_of, length-arcs_of}
-use Rattle.dual_bound.specs.Weighing.{is_arc, limits_bring, row_arcs, rows_bring}
 
 -- before the last arc is written, the next one is an arc
 pub arc_left : (m u x k : ℕ) → arc_at m u x ≡ k → k < arc_total m → x ≤ m + 1 → (m < x → u ≡ m) → x ≤ m
@@ -46,11 +44,3 @@ pub arcs_end : (g : ℕ × ℕ → ℤ) (m k : ℕ) (arcs : List ℤ) → length
 arcs_end g m k arcs long past done =
     let all = length-arcs_of m in
     sym (take_all k arcs past) ∙ done ∙ ap (map g) (take_all k (arcs_of m) (omega (arith, all, long, past)))
-
--- without limits the rows alone are left
-pub no_limits_more : (m : ℕ) (rows : List ℕ) → map (λ a. rows_bring m rows a +ℤ limits_bring (is_arc a) [] []) (arcs_of m) ≡ row_arcs m rows
-no_limits_more m rows = by (arcs_of m)
-  where
-    by : (arcs : List (ℕ × ℕ)) → map (λ a. rows_bring m rows a +ℤ pos 0) arcs ≡ map (rows_bring m rows) arcs
-    by [] = refl
-    by (a ∷ arcs) = let z : rows_bring m rows a +ℤ pos 0 ≡ rows_bring m rows a = omega (arith, ints) in rw z (ap (λ (zs : List ℤ). rows_bring m rows a ∷ zs) (by arcs))

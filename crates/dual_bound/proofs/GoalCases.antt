@@ -35,14 +35,6 @@ best_at start limits ls best goal = elim goal [
   | Cover x ↦ best ≡ pos (add_up (λ l. l) (of_rows start ls))
 ]
 
-pub best_of_suffix : (start : Ground) (limits : List Limit) (ls suffix : List ℕ) (best : ℤ) → start.goal ≡ Suffix suffix
-    → IsBest (length suffix) (all_arcs start limits ls (length suffix)) 0 best → IsBestNew start limits ls best
-best_of_suffix start limits ls suffix best is greatest = subst (best_at start limits ls best) (sym is) greatest
-
 pub best_of_pair : (start : Ground) (limits : List Limit) (ls : List ℕ) (g l : ℕ) (best : ℤ) → start.goal ≡ Pair g l
     → best ≡ pos (slice_index (of_rows start ls) 0) *ℤ start.lone → IsBestNew start limits ls best
 best_of_pair start limits ls g l best is value = subst (best_at start limits ls best) (sym is) value
-
-pub best_of_cover : (start : Ground) (limits : List Limit) (ls : List ℕ) (x : ℕ) (best : ℤ) → start.goal ≡ Cover x
-    → best ≡ pos (add_up (λ l. l) (of_rows start ls)) → IsBestNew start limits ls best
-best_of_cover start limits ls x best is value = subst (best_at start limits ls best) (sym is) value

@@ -7,8 +7,8 @@ use Rattle.std.proofs.lemmas.Bool.{cases_lt}
 use Rattle.std.proofs.lemmas.Bool.Decides.{nat_tests}
 use Rattle.irv_count.specs.Orders.{stands}
 use Rattle.sig_graph.specs.Paths.{path_sum, weight_at}
-use Rattle.dual_bound.specs.Weighing.{over_weight, places_by, times_all}
-use Rattle.dual_bound.proofs.Pairwise.{zip_none, zip_rest}
+use Rattle.dual_bound.specs.Weighing.{over_weight, times_all}
+use Rattle.dual_bound.proofs.Pairwise.{zip_rest}
 
 -- ---- suffixes
 
@@ -18,12 +18,6 @@ places_from m key x = filter (λ p. stands key (p - 1)) (range_with_len x (m + 1
 
 range_next : (m x : ℕ) → x ≤ m → range_with_len x (m + 1 - x) ≡ x ∷ range_with_len (x + 1) (m + 1 - (x + 1))
 range_next m x le = let e : m + 1 - x ≡ suc (m + 1 - (x + 1)) = omega (arith, le) in ap (range_with_len x) e
-
-pub path_start : (m key : ℕ) (arcs : List ℤ) → pos 0 +ℤ path_sum m arcs 0 (places_from m key 1) ≡ path_sum m arcs 0 (places_by m key)
-path_start m key arcs =
-    let e : m + 1 - 1 ≡ m = omega arith in
-    let s = ap (λ n. path_sum m arcs 0 (filter (λ p. stands key (p - 1)) (range_with_len 1 n))) e in
-    omega (arith, ints, s)
 
 pub path_takes : (m key u x : ℕ) (arcs : List ℤ) (sum step whole : ℤ) → x ≤ m → stands key (x - 1) ≡ true → step ≡ weight_at m arcs u x
     → sum +ℤ path_sum m arcs u (places_from m key x) ≡ whole → (sum +ℤ step) +ℤ path_sum m arcs x (places_from m key (x + 1)) ≡ whole
@@ -39,12 +33,6 @@ path_passes m key u x arcs sum whole le off so_far =
     let f : places_from m key x ≡ places_from m key (x + 1) =
     ap (filter (λ p. stands key (p - 1))) (range_next m x le) ∙ ap (λ b. cond b (x ∷ places_from m key (x + 1)) (places_from m key (x + 1))) off in
     let s = ap (path_sum m arcs u) f in
-    omega (arith, ints, s, so_far)
-
-pub path_end : (m key u x : ℕ) (arcs : List ℤ) (sum whole : ℤ) → m + 1 ≤ x → sum +ℤ path_sum m arcs u (places_from m key x) ≡ whole → sum ≡ whole
-path_end m key u x arcs sum whole past so_far =
-    let e : m + 1 - x ≡ 0 = omega (arith, past) in
-    let s = ap (λ n. path_sum m arcs u (filter (λ p. stands key (p - 1)) (range_with_len x n))) e in
     omega (arith, ints, s, so_far)
 
 -- ---- covers
@@ -76,13 +64,6 @@ cover_passes c x key j row rows sum whole less same so_far =
     let f = others_next c x j less ∙ ap (λ b. cond b (j ∷ others_from c x (j + 1)) (others_from c x (j + 1))) t in
     let s = ap (rest_cost x key (drop row rows)) f in
     omega (arith, ints, s, so_far)
-
-pub cover_end : (c x key j row : ℕ) (rows : List ℕ) (sum whole : ℤ) → c ≤ j → sum +ℤ rest_cost x key (drop row rows) (others_from c x j) ≡ whole → sum ≡ whole
-cover_end c x key j row rows sum whole past so_far =
-    let e : c - j ≡ 0 = omega (arith, past) in
-    let s = ap (λ n. rest_cost x key (drop row rows) (filter (λ k. not (k == x)) (range_with_len j n))) e in
-    let z = zip_none (λ (v : ℕ × ℤ). pos v.0 *ℤ v.1) (drop row rows) in
-    omega (arith, ints, s, z, so_far)
 
 -- the row that compares x with j is one of them
 pub row_within : (n x j row : ℕ) → j < n + 1 → x ≤ n → j ≢ x → (j ≤ x → row ≡ j) → (x < j → row + 1 ≡ j) → row < n

@@ -7,7 +7,6 @@ use Rattle.std.proofs.lemmas.Int.{ints}
 use Rattle.std.proofs.Math.ListN.{set}
 use Rattle.mov_base.specs.Sums.{add_up, sum_z}
 use Rattle.row_program.specs.declared.Limit.{Limit}
-use Rattle.dual_bound.specs.Sizes.{AreNotWide}
 use Rattle.dual_bound.specs.Weighing.{limit_start, times_all}
 
 pub zip_more : {X : Type 0} (f : ℕ × X → ℤ) (ls : List ℕ) (xs : List X) (i j : ℕ) (x : X) → i < length ls → i < length xs → i + 1 ≡ j
@@ -59,20 +58,6 @@ pub drop_twice : (n m : ℕ) (xs : List ℕ) → drop m (drop n xs) ≡ drop (n 
 drop_twice zero m xs = let e : zero + m ≡ m = omega arith in rw e refl
 drop_twice (suc n) m [] = drop_nothing m ∙ sym (drop_nothing (suc n + m))
 drop_twice (suc n) m (x ∷ xs) = let e : suc n + m ≡ suc (n + m) = omega arith in rw e (drop_twice n m xs)
-
-first_not_wide : (n : ℕ) (ls : List ℕ) → AreNotWide ls → AreNotWide (take n ls)
-first_not_wide zero ls small i d lt = absurd (omega (arith, lt))
-first_not_wide (suc n) [] small i d lt = absurd (omega (arith, lt))
-first_not_wide (suc n) (l ∷ ls) small zero d lt = small 0 d (omega arith)
-first_not_wide (suc n) (l ∷ ls) small (suc i) d lt = first_not_wide n ls (λ k e le. small (suc k) e (omega (arith, le))) i d (omega (arith, lt))
-
-rest_not_wide : (m : ℕ) (ls : List ℕ) → AreNotWide ls → AreNotWide (drop m ls)
-rest_not_wide zero ls small = small
-rest_not_wide (suc m) [] small = λ i d lt. absurd (omega (arith, lt))
-rest_not_wide (suc m) (l ∷ ls) small = rest_not_wide m ls (λ k e le. small (suc k) e (omega (arith, le)))
-
-pub part_not_wide : (n m : ℕ) (ls : List ℕ) → AreNotWide ls → AreNotWide (take n (drop m ls))
-part_not_wide n m ls small = first_not_wide n (drop m ls) (rest_not_wide m ls small)
 
 -- what holds of the first items holds of one more
 pub after_set : {X : Type 0} (P : X → Type 0) (xs : List X) (i : ℕ) (v d : X) → i < length xs → ((k : ℕ) → k < i → P (get_or xs k d)) → P v

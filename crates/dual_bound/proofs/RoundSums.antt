@@ -13,7 +13,6 @@ use Rattle.mov_base.specs.Sums.{add_up, sum_z}
 use Rattle.sig_graph.specs.Paths.{arc_total, arcs_before}
 use Rattle.sig_graph.specs.Rows.{row_weight_of}
 use Rattle.sig_graph.proofs.ArcNumbers.{arcs_before-all, arcs_before-mono}
-use Rattle.dual_bound.specs.Weighing.{rows_bring}
 use Rattle.dual_bound.specs.WeighingParts.{round_brings, round_places, row_brings}
 use Rattle.dual_bound.proofs.Pairwise.{zip_none, zip_split, drop_twice}
 
@@ -121,12 +120,6 @@ few_rows m few =
     let a = mul-le-mul_left n h in
     omega (arith, a, few)
 
-pub few_arcs : (m : ℕ) → m ≤ 40 → arc_total m ≤ 820
-few_arcs m few =
-    let h : m + 1 ≤ 41 = omega (arith, few) in
-    let a = mul-le-mul_left m h in
-    omega (arith, a, few)
-
 -- ---- round after round
 
 -- the rows from round i on
@@ -196,9 +189,6 @@ rounds_end m i first rows a sum whole past so_far =
     let s1 = ap (λ (xs : List (ℕ × ℕ)). sum_z (row_brings a) (zip (drop first rows) xs)) (rounds_done m i past) in
     let s2 = zip_none (row_brings a) (drop first rows) in
     omega (arith, ints, s1, s2, so_far)
-
-pub rounds_start : (m : ℕ) (rows : List ℕ) (a : ℕ × ℕ) → pos 0 +ℤ sum_z (row_brings a) (zip rows (rounds_from m 1)) ≡ rows_bring m rows a
-rounds_start m rows a = omega (arith, ints)
 
 -- where all rounds are counted, all rows are
 pub first_end : (m i : ℕ) → 1 ≤ m → m ≤ i → i ≤ m → arcs_before (m - 1) (i - 1) ≡ arc_total (m - 1)

@@ -24,6 +24,11 @@ IsSmallSum sum = unsigned_abs sum ≤ 2 ^ 40
 abbrev pub IsSmallArc : ℤ → Type 0
 IsSmallArc w = unsigned_abs w ≤ 2 ^ 74
 
+-- what a new ballot brings at most, of at most 87 bits
+pub record IsSmallBest (best : ℤ) : Type 0 where
+  pub low : pos 0 ≤ℤ best
+  pub high : best ≤ℤ pos (2 ^ 86)
+
 -- few limits, of small values
 pub record AreSmallLimits (limits : List Limit) : Type 0 where
   pub few : length limits ≤ MOST_LIMITS

@@ -2,7 +2,7 @@
 ghost use Rattle.std.specs.Prelude.{◌≡◌, ◌≤◌, ◌<◌, ◌+◌, ◌-◌, ◌*◌, ◌^◌, All, length, map, unsigned_abs, pos, ◌+ℤ◌, ◌≤ℤ◌};
 ghost use Rattle.sig_graph.specs.Paths.{IsBest, arc_at, arc_total, arcs_of};
 ghost use Rattle.signature_class.specs.declared.limits.TheConstants.{MOST_PLACES};
-ghost use Rattle.dual_bound.specs.Sizes.{AreNotWide, IsSmallArc};
+ghost use Rattle.dual_bound.specs.Sizes.{AreNotWide, IsSmallArc, IsSmallBest};
 ghost use Rattle.dual_bound.specs.Weighing.{is_arc, limits_bring, rows_bring};
 ghost use Rattle.dual_bound.specs.WeighingParts.{round_brings};
 
@@ -32,8 +32,7 @@ pub(crate) fn best_of_arcs(
     requires cells { length cells.old ≡ m + 1 }
     ensures best { IsBest m (map (λ a. rows_bring m rows.now a +ℤ limits_bring (is_arc a) bounds.now limits.now)
         (arcs_of m)) 0 result }
-    ensures low { pos 0 ≤ℤ result }
-    ensures high { result ≤ℤ pos (2 ^ 86) }
+    ensures small { IsSmallBest result }
 {
     write_arcs(m, rows, limits, bounds, arcs);
     best_path(m, arcs, cells)

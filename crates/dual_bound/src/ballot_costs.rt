@@ -1,5 +1,6 @@
 // What an old ballot costs, by its key.
-ghost use Rattle.std.specs.Prelude.{◌≡◌, ◌≤◌, ◌<◌, ◌+◌, ◌*◌, ◌^◌, ℕ, List, All, length, map, unsigned_abs, pos, ◌-ℤ◌, ◌*ℤ◌};
+ghost use Rattle.std.specs.Prelude.{◌≡◌, ◌≤◌, ◌<◌, ◌+◌, ◌*◌, ◌^◌, ℕ, List, All, length, map};
+ghost use Rattle.std.specs.Prelude.{unsigned_abs, pos, ◌-ℤ◌, ◌*ℤ◌};
 ghost use Rattle.sig_graph.specs.Paths.{arc_total, path_sum};
 ghost use Rattle.signature_class.specs.declared.limits.TheConstants.{MOST_PLACES};
 ghost use Rattle.goal_rows.specs.Suffixes.{others};

@@ -5,7 +5,8 @@ ghost use Rattle.ballot_form.specs.declared.limits.TheConstants.{MOST_BALLOTS};
 ghost use Rattle.dual_bound.specs.CutTest.{AreMultipliers};
 ghost use Rattle.dual_bound.specs.Largest.{IsSmallBase};
 ghost use Rattle.dual_bound.specs.Sizes.{AreNotWide, AreSmallLimits, IsSmallGround, IsSmallSum};
-ghost use Rattle.dual_bound.specs.Weighing.{base_by, limit_start, of_limits as limits_part, of_rows as rows_part, times_all};
+ghost use Rattle.dual_bound.specs.Weighing.{base_by, limit_start, times_all};
+ghost use Rattle.dual_bound.specs.Weighing.{of_limits as limits_part, of_rows as rows_part};
 
 use exact_num::WIDE;
 use goal_rows::MOST_ROWS;

@@ -6,7 +6,7 @@ ghost use Rattle.signature_class.specs.Classes.{IsGrouped};
 ghost use Rattle.goal_rows.specs.declared.goals.Goal.TheVariants.{Suffix};
 ghost use Rattle.dual_bound.specs.CutTest.{AreMultipliers};
 ghost use Rattle.dual_bound.specs.Largest.{AreSmall, IsDescending};
-ghost use Rattle.dual_bound.specs.Sizes.{IsSmallArc, IsSmallGround, places_of as goal_places};
+ghost use Rattle.dual_bound.specs.Sizes.{IsSmallArc, IsSmallBest, IsSmallGround, places_of as goal_places};
 ghost use Rattle.dual_bound.specs.Weighing.{IsBestNew, cost_by, gain_by, gain_over, of_rows as rows_part, row_arcs};
 ghost use Rattle.dual_bound.specs.WeighingParts.{gains_by};
 
@@ -45,8 +45,7 @@ pub(crate) fn best_new(
     requires arcs { length arcs.old ≡ arc_total (goal_places start.now.goal) }
     requires cells { length cells.old ≡ goal_places start.now.goal + 1 }
     ensures best { IsBestNew start.now limits.now multipliers.now result }
-    ensures low { pos 0 ≤ℤ result }
-    ensures high { result ≤ℤ pos (2 ^ 86) }
+    ensures small { IsSmallBest result }
 {
     let rows = of_rows(start, multipliers);
     let bounds = of_limits(start, multipliers);
@@ -67,8 +66,7 @@ fn best_of_pair(multiplier: u64, lone: i64) -> i128
     requires lone_low { pos 0 ≤ℤ lone }
     requires lone_high { lone ≤ℤ pos 1024 }
     ensures value { result ≡ pos multiplier *ℤ lone }
-    ensures low { pos 0 ≤ℤ result }
-    ensures high { result ≤ℤ pos (2 ^ 86) }
+    ensures small { IsSmallBest result }
 {
     i128::from(multiplier) * i128::from(lone)
 }
@@ -105,8 +103,7 @@ pub(crate) fn sorted_gains(
     requires start { IsSmallGround start.now }
     requires few { length limits.now ≤ MOST_LIMITS }
     requires multipliers { AreMultipliers start.now limits.now multipliers.now }
-    requires low { pos 0 ≤ℤ best }
-    requires high { best ≤ℤ pos (2 ^ 86) }
+    requires best { IsSmallBest best }
     requires arcs { (suffix : List ℕ) → start.now.goal ≡ Suffix suffix →
         arcs.now ≡ row_arcs (length suffix) (rows_part start.now multipliers.now) }
     requires small { All IsSmallArc arcs.now }
@@ -133,8 +130,7 @@ fn write_gains(
     requires start { IsSmallGround start.now }
     requires few { length limits.now ≤ MOST_LIMITS }
     requires multipliers { AreMultipliers start.now limits.now multipliers.now }
-    requires low { pos 0 ≤ℤ best }
-    requires high { best ≤ℤ pos (2 ^ 86) }
+    requires best { IsSmallBest best }
     requires arcs { (suffix : List ℕ) → start.now.goal ≡ Suffix suffix →
         arcs.now ≡ row_arcs (length suffix) (rows_part start.now multipliers.now) }
     requires small { All IsSmallArc arcs.now }
@@ -150,8 +146,7 @@ fn write_gains(
 
 /// What is gained where the best new ballot replaces one of this cost; nothing where that costs more.
 fn gain(best: i128, cost: i128) -> u128
-    requires low { pos 0 ≤ℤ best }
-    requires high { best ≤ℤ pos (2 ^ 86) }
+    requires best { IsSmallBest best }
     requires cost { unsigned_abs cost ≤ 2 ^ 81 }
     ensures value { result ≡ gain_over best cost }
     ensures small { result ≤ 2 ^ 88 }

@@ -5,10 +5,10 @@
 //! together stay below 0. The definition (`specs/CutTest.antt`) takes the gains ballot by ballot, each over all valid
 //! new ballots; `cuts` is exactly this test, and `bound_of` the greatest number at which it passes. They work over the
 //! classes of ballots, in a `Scratch` that is made before, and take no memory. Where the test passes, no shorter list
-//! of replacements meets the node. A node is any goal that is reached from the root, with limits on its features: what a
-//! new ballot brings at most is that of the gainer or the candidate of a cover alone, or of the best path of a suffix,
-//! and what an old ballot costs is read from its key. The crate stands on `goal_rows`, on `sig_graph` for paths, and on
-//! `row_program` for limits.
+//! of replacements meets the node. A node is any goal that is reached from the root, with limits on its features. What
+//! a new ballot brings at most is what the gainer alone does, or the candidate of a cover alone, or the best path of a
+//! suffix; what an old ballot costs is read from its key. The crate stands on `goal_rows`, on `sig_graph` for paths,
+//! and on `row_program` for limits.
 #![tactic(auto)]
 
 mod arc_weights;

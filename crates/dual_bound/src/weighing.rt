@@ -5,7 +5,7 @@ ghost use Rattle.signature_class.specs.Classes.{IsGrouped};
 ghost use Rattle.dual_bound.specs.CutTest.{AreMultipliers};
 ghost use Rattle.dual_bound.specs.Largest.{AreSmall, CutsAt, IsDescending, IsGreatestCut};
 ghost use Rattle.dual_bound.specs.Rooms.{HasTables};
-ghost use Rattle.dual_bound.specs.Sizes.{AreSmallLimits, IsSmallGround};
+ghost use Rattle.dual_bound.specs.Sizes.{AreSmallLimits, IsSmallBest, IsSmallGround};
 ghost use Rattle.dual_bound.specs.Weighing.{IsBestNew, base_by, cost_by, gain_by};
 
 use crate::bases::base;
@@ -153,8 +153,7 @@ fn best_in_room(
     requires arcs { length arcs.old.items ≡ MOST_ARCS }
     requires cells { length cells.old.items ≡ MOST_CELLS }
     ensures best { IsBestNew start.now limits.now multipliers.now result }
-    ensures low { pos 0 ≤ℤ result }
-    ensures high { result ≤ℤ pos (2 ^ 86) }
+    ensures small { IsSmallBest result }
     ensures arcs { length arcs.new.items ≡ MOST_ARCS }
     ensures cells { length cells.new.items ≡ MOST_CELLS }
 {
@@ -177,8 +176,7 @@ fn gains_in_room(
     requires start { IsSmallGround start.now }
     requires few { length limits.now ≤ MOST_LIMITS }
     requires multipliers { AreMultipliers start.now limits.now multipliers.now }
-    requires low { pos 0 ≤ℤ best }
-    requires high { best ≤ℤ pos (2 ^ 86) }
+    requires best { IsSmallBest best }
     requires arcs { length row_arcs.old.items ≡ MOST_ARCS }
     requires places { length places.old ≡ length start.now.classes }
     ensures order { IsDescending places.new }
