@@ -24,7 +24,7 @@ walk-walk_among-requires t c =
     let given = given_for e c.args.asked c.args.start.now c.as_slice.result.now c.args.limits.now.items (plain_of c.args.tree.now) c.as_slice.ensures.value (c.gives.ensures.value.0 c.if-not-gives.false) in
     let covered = sym c.in_ok-starts-in-Split.ensures.goals ∙ ap (option_map goals_of) c.in-Some.is in
     let many = as_many_kids e c.args.asked node c.args.tree.now c.in-Split.kids (goals_of c.in-Some.starts) c.in-Split.is covered c.requires.known given in
-    let values = some_grounds e c.in_ok-starts-in-Split.starts c.in-Some.starts c.in-Some.is c.in_ok-starts-in-Split.ensures.values in (
+    let values = some_grounds e c.in_ok-starts-in-Split.field-0 c.in-Some.starts c.in-Some.is c.in_ok-starts-in-Split.ensures.values in (
       search (rules, size_Split),
       (
         c.requires.race,
