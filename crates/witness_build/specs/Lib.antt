@@ -1,3 +1,5 @@
+pub mod CoverWalks
+pub mod Lacking
 pub mod Levels
 pub mod Nearest
 pub mod Witnesses

@@ -10,11 +10,14 @@
 #![tactic(auto)]
 
 mod chosen;
+mod covers;
 mod laws;
 mod levels;
 mod pairs;
 mod starts;
+mod walks;
 
+pub use covers::cover_witness;
 pub use laws::no_shorter_alteration_meets_a_root_pair;
 pub use pairs::{Witness, pair_witness};
 pub use starts::start_witness;
