@@ -23,7 +23,7 @@ use Rattle.goal_rows.proofs.Lists.{among_those, is_other}
 use Rattle.goal_rows.proofs.Roots.{cover_among}
 use Rattle.goal_rows.specs.declared.goals.Goal.{Goal}
 use Rattle.goal_rows.specs.declared.goals.Goal.TheVariants.{Cover}
-use Rattle.witness_build.specs.CoverWalks.{IsCoverWitness, IsShortestTo, brings_closer, cover_walk, walk_from}
+use Rattle.witness_build.specs.CoverWalks.{IsShortestTo, brings_closer, cover_walk, walk_from}
 use Rattle.witness_build.specs.Witnesses.{IsMetBy}
 
 -- ---- the ballots after the walk

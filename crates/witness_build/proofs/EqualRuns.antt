@@ -1,5 +1,5 @@
 -- A run of equal ballots on the walk for a cover.
-use Rattle.std.proofs.Common.{ℕ, zero, suc, List, [], ◌∷◌, ◌++◌, Bool, true, false, All, ◌≡◌, ◌≢◌, ◌<◌, ◌≤◌, ◌+◌, ◌-◌, ◌*◌, ◌∙◌, cond, min, max, length, replicate, get_or, ap, sym, subst, refl, inl, inr, arith, append_assoc, append-nil, length-append, suc-mul}
+use Rattle.std.proofs.Common.{ℕ, zero, suc, List, [], ◌∷◌, ◌++◌, Bool, true, false, All, ◌≡◌, ◌≢◌, ◌⊎◌, ◌<◌, ◌≤◌, ◌+◌, ◌-◌, ◌*◌, ◌∙◌, cond, min, max, length, replicate, get_or, ap, sym, subst, refl, inl, inr, arith, append_assoc, append-nil, length-append, suc-mul}
 use Rattle.std.proofs.Math.Nat.{mul-le-mul_right}
 use Rattle.std.specs.Prelude.{Contains, ◌==◌, ◌&&◌, not, nat_lt, slice_index}
 use Rattle.std.specs.List.{list_any, range_with_len}
@@ -183,7 +183,7 @@ needed_less c x k gain lacking needed = record {
   ];
   used = elim needed.used [
     | inl none ↦ absurd (omega (arith, none))
-    | inr is ↦ inr (is.0, is.1, is.2, is.3.0, omega (arith, is.3.1, suc-mul k (gain is.0)))
+    | inr is ↦ inr (is.0, is.1, is.2, (is.3.0, omega (arith, is.3.1, suc-mul k (gain is.0))))
   ];
 }
 
@@ -274,8 +274,10 @@ walk_more p x key k needed old run new numbers more lacking next xc few is key_i
     let past = run_past p.c x run.count k needed run.row.now (gain_by key x) (λ j. slice_index lacking j) on.done new.ballots gains lacks here
       (omega (arith, count)) (omega (arith, count)) (λ lt. omega (arith, count, lt)) in
     let at : length on.done + 1 ≡ run.first = on.placed ∙ sym is.numbered in
+    let walked : walk_from p.c x on.done old.ballots ≡ range_with_len (length on.done + 1) k ++ walk_from p.c x past.past new.ballots =
+      ap (walk_from p.c x on.done) is.joined ∙ past.walk in
     let step : walk_from p.c x on.done old.ballots ≡ range_with_len run.first k ++ walk_from p.c x past.past new.ballots =
-      ap (walk_from p.c x on.done) is.joined ∙ past.walk ∙ ap (λ i. range_with_len i k ++ walk_from p.c x past.past new.ballots) at in
+      walked ∙ ap (λ i. range_with_len i k ++ walk_from p.c x past.past new.ballots) at in
     record {
       done = past.past;
       placed = omega (arith, past.long, at, is.numbered, is.after);

@@ -50,12 +50,13 @@ fn shortest_walk(alloc: Global, roll: &Roll) -> Result<Walk, Memory>
     ensures shortest { IfOk result (λ found. IsShortestTo roll.now roll.now.c found.candidate) }
     ensures numbers { IfOk result (λ found. found.numbers ≡ cover_walk roll.now found.candidate) }
 {
+    let candidates = roll.candidates();
     let matrix = pairs(alloc, roll)?;
     let mut shortest = Walk {
         candidate: 0,
         numbers: walk(alloc, roll, &matrix, 0)?,
     };
-    for x in 1..roll.candidates() {
+    for x in 1..candidates {
         let numbers = walk(alloc, roll, &matrix, x)?;
         if numbers.len() < shortest.numbers.len() {
             shortest = Walk {
