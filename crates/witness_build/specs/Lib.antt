@@ -2,4 +2,5 @@ pub mod CoverWalks
 pub mod Lacking
 pub mod Levels
 pub mod Nearest
+pub mod Starts
 pub mod Witnesses
