@@ -1,5 +1,5 @@
 -- At the end of the walk for a cover its rows hold.
-use Rattle.std.proofs.Common.{ℕ, suc, List, [], ◌∷◌, ◌++◌, Option, Some, None, Bool, true, false, ◌≡◌, ◌≢◌, ◌<◌, ◌≤◌, ◌+◌, ◌∙◌, cond, length, get_or, ap, sym, subst, refl, inl, inr, arith, append_assoc, length-append}
+use Rattle.std.proofs.Common.{ℕ, List, [], ◌∷◌, ◌++◌, Option, Some, None, Bool, true, false, ◌≡◌, ◌≢◌, ◌<◌, ◌≤◌, ◌+◌, ◌∙◌, cond, length, ap, sym, subst, refl, inl, inr, arith, append_assoc, length-append}
 use Rattle.std.specs.Prelude.{Contains, ◌==◌, ◌&&◌, not, nat_lt}
 use Rattle.std.specs.List.{list_any}
 use Rattle.std.proofs.lemmas.Bool.{cases_lt, lt-ltb}
@@ -21,7 +21,6 @@ use Rattle.goal_rows.specs.Suffixes.{others, prefer_points}
 use Rattle.goal_rows.proofs.CoverTurning.{IsUnbeaten, pref_points_sum, unbeaten_exactly}
 use Rattle.goal_rows.proofs.Lists.{among_those, is_other}
 use Rattle.goal_rows.proofs.Roots.{cover_among}
-use Rattle.goal_rows.specs.declared.goals.Goal.{Goal}
 use Rattle.goal_rows.specs.declared.goals.Goal.TheVariants.{Cover}
 use Rattle.witness_build.specs.CoverWalks.{IsShortestTo, brings_closer, cover_walk, walk_from}
 use Rattle.witness_build.specs.Witnesses.{IsMetBy}

@@ -1,8 +1,8 @@
 -- A run of equal ballots on the walk for a cover.
 use Rattle.std.proofs.Common.{ℕ, zero, suc, List, [], ◌∷◌, ◌++◌, Bool, true, false, All, ◌≡◌, ◌≢◌, ◌⊎◌, ◌<◌, ◌≤◌, ◌+◌, ◌-◌, ◌*◌, ◌∙◌, cond, min, max, length, replicate, get_or, ap, sym, subst, refl, inl, inr, arith, append_assoc, append-nil, length-append, suc-mul}
 use Rattle.std.proofs.Math.Nat.{mul-le-mul_right}
-use Rattle.std.specs.Prelude.{Contains, ◌==◌, ◌&&◌, not, nat_lt, slice_index}
-use Rattle.std.specs.List.{list_any, range_with_len}
+use Rattle.std.specs.Prelude.{◌==◌, ◌&&◌, not, nat_lt, slice_index}
+use Rattle.std.specs.List.{range_with_len}
 use Rattle.std.proofs.lemmas.Bool.{cases_lt, le-ltb, lt-ltb}
 use Rattle.std.proofs.lemmas.List.Elements.{Contains-get_or}
 use Rattle.std.proofs.lemmas.List.Folds.{list_any_at, list_any_none}
@@ -23,7 +23,7 @@ use Rattle.goal_rows.proofs.CoverTurning.{pref_points_sum}
 use Rattle.goal_rows.proofs.Lists.{among_those, is_other, other_is, those_are}
 use Rattle.witness_build.specs.CoverWalks.{brings_closer, cover_walk, walk_from}
 use Rattle.witness_build.specs.Lacking.{AreNeededAt, AreNeededTo, IsEnough, gain_by}
-use Rattle.witness_build.proofs.CoverEnds.{lone_over, lone_under, not_both, one_at_most, one_more}
+use Rattle.witness_build.proofs.CoverEnds.{lone_over, lone_under, not_both, one_at_most}
 
 -- ---- how many are needed, one candidate more
 
