@@ -1,6 +1,7 @@
 -- The walk for a cover: ballots are replaced by the candidate alone, in the order of their numbers, until no other
 -- candidate is preferred to it by more ballots than prefer it.
-use Rattle.std.specs.Prelude.{◌≡◌, ℕ, ◌+◌, ◌<◌, ◌≤◌, ◌&&◌, not, nat_lt, Bool, List, [], ◌∷◌, ◌++◌, if◌then◌else◌, length}
+use Rattle.std.specs.Prelude.{◌≡◌, ℕ, ◌+◌, ◌<◌, ◌≤◌, ◌&&◌, not, nat_lt, Bool, List, [], ◌∷◌, ◌++◌, if◌then◌else◌}
+use Rattle.std.specs.Prelude.{length}
 use Rattle.std.specs.List.{list_any}
 use Rattle.ballot_form.specs.Ballots.{Poll}
 use Rattle.condorcet_count.specs.Preferences.{pref_of, prefers}

@@ -15,8 +15,8 @@ abbrev pub has_no_winner : Rule → Outcome → Bool
 has_no_winner Condorcet NoWinner = true
 has_no_winner rule reported = false
 
--- where pairs decide, the cheapest replacements of the root's pairs, and where Condorcet's rule reports no winner, those
--- of the shortest walk for a cover
+-- where pairs decide, the cheapest replacements of the root's pairs, and where Condorcet's rule reports no winner,
+-- those of the shortest walk for a cover
 pub record IsStart (e : Election) (goal : Goal) (changes : List (ℕ × List ℕ)) : Type 0 where
   pub pairs : IsDecidedByPairs e.rule e.reported → IsStartWitness e goal changes
   pub covers : has_no_winner e.rule e.reported ≡ true → IsCoverWitness e goal changes

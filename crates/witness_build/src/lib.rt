@@ -3,12 +3,12 @@
 //! `pair_witness` answers the cheapest replacements of a pair, under every rule that knows pairs: as few as bring its
 //! gainer level with its loser, each by the ballot that ranks the gainer alone, of the ballots with the largest gains,
 //! lower numbers first at equal gains. `cover_witness` answers, where Condorcet's rule reports no winner, the shortest
-//! walk for a cover, which replaces ballots by its candidate alone until no other one is preferred to it by more ballots
-//! than prefer it. `start_witness` answers where a search begins what is known to turn the outcome: the replacements of
-//! the first root pair that the fewest bring level, or the shortest walk. No alteration of fewer replacements than those
-//! of pairs, whatever their new ballots, meets a root pair. Gains are counted by classes of ballots, and the ballots to
-//! replace are found in one pass over the runs of equal ballots. The crate stands on the goals of `goal_rows`, the pairs
-//! of `condorcet_count` and the alterations of `alteration_model`.
+//! walk for a cover, which replaces ballots by its candidate alone until no other one is preferred to it by more
+//! ballots than prefer it. `start_witness` answers where a search begins what is known to turn the outcome: the
+//! replacements of the first root pair that the fewest bring level, or the shortest walk. No alteration of fewer
+//! replacements than those of pairs, whatever their new ballots, meets a root pair. Gains are counted by classes of
+//! ballots, and the ballots to replace are found in one pass over the runs of equal ballots. The crate stands on the
+//! goals of `goal_rows`, the pairs of `condorcet_count` and the alterations of `alteration_model`.
 #![tactic(auto)]
 
 mod chosen;

@@ -13,8 +13,8 @@ use mov_base::{List, Memory};
 use signature_class::cover_key;
 use std::alloc::Global;
 
-/// The numbers of the ballots that are replaced for the cover of a candidate, ascending. They are found in one pass over
-/// the runs of equal ballots.
+/// The numbers of the ballots that are replaced for the cover of a candidate, ascending. They are found in one pass
+/// over the runs of equal ballots.
 pub(crate) fn walk(
     alloc: Global,
     roll: &Roll,
@@ -50,7 +50,8 @@ fn lacking_against(alloc: Global, matrix: &Matrix, x: Cand) -> Result<Vec<u32>, 
     Ok(lacking)
 }
 
-/// How many ballots with this key are to be replaced until no more of them brings `x` closer to anyone it lacks against.
+/// How many ballots with this key are to be replaced until no more of them brings `x` closer to anyone it lacks
+/// against.
 fn needed(lacking: &[u32], key: u64, x: Cand) -> u32
     requires { length lacking.now ≤ MOST_CANDIDATES }
     ensures { AreNeededTo (length lacking.now) x result (gain_by key x) (λ j. slice_index lacking.now j) }
