@@ -4,7 +4,7 @@ use Rattle.witness_build.specs.Nearest.{IsNearestSoFar, IsNearestUpTo}
 use Rattle.witness_build.specs.Witnesses.{IsPair}
 use Rattle.witness_build.proofs.Nearby.{pair_of_nearest, started}
 use Rattle.witness_build.proofs.RootPairs.{none_of_one, one_where_none, own_are_pairs}
-use Rattle.witness_build.proofs.starts.start_witness.Goals as goal
+use Rattle.witness_build.proofs.starts.nearest_witness.Goals as goal
 
 pub nearest-requires-clause-pairs : goal.nearest-requires-clause-pairs
 nearest-requires-clause-pairs c =
