@@ -1,11 +1,9 @@
 -- The names of made candidates.
-use Rattle.std.proofs.Common.{ℕ, true, List, [], ◌∷◌, ◌++◌, ◌≡◌, ◌≢◌, ◌<◌, ◌≤◌, ◌+◌, ◌^◌, ◌∙◌, All, codes, decimal, length, get_or, map, arith, refl, sym, subst}
-use Rattle.std.specs.List.{AllPairs, list_all, range_with_len}
-use Rattle.std.specs.Str.{is_utf8}
+use Rattle.std.proofs.Common.{ℕ, true, List, [], ◌∷◌, ◌++◌, ◌≡◌, ◌≢◌, ◌<◌, ◌≤◌, ◌+◌, ◌∙◌, All, codes, decimal, length, get_or, arith, sym}
+use Rattle.std.specs.List.{AllPairs}
 use Rattle.std.proofs.lemmas.Fmt.{decimal_injective}
 use Rattle.std.proofs.lemmas.List.{append_cancel_left}
-use Rattle.std.proofs.lemmas.List.FromFn.{get_or-map-range_with_len, get_or-range_with_len, length-map-range_with_len, length-range_with_len, map-range_with_len_more}
-use Rattle.std.proofs.lemmas.List.Sums.{AllPass-from_list_all}
+use Rattle.std.proofs.lemmas.List.FromFn.{get_or-map-range_with_len, length-map-range_with_len, map-range_with_len_more}
 use Rattle.ballot_form.specs.declared.limits.TheConstants.{MOST_CANDIDATES}
 use Rattle.ballot_form.specs.Names.{is_name}
 use Rattle.ballot_make.proofs.AdmittedNames.{name_admitted}

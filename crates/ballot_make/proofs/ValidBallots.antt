@@ -1,6 +1,6 @@
 -- Each drawn ballot is valid.
-use Rattle.std.proofs.Common.{ℕ, zero, suc, List, ◌∷◌, ◌≡◌, ◌≢◌, ◌<◌, ◌≤◌, ◌+◌, ◌*◌, ◌/◌, ◌^◌, ◌∙◌, All, length, get_or, arith, inl, inr, sym, subst}
-use Rattle.std.specs.List.{AllPairs, range_with_len, remove}
+use Rattle.std.proofs.Common.{ℕ, zero, suc, List, ◌≡◌, ◌≢◌, ◌<◌, ◌≤◌, ◌+◌, ◌*◌, ◌/◌, ◌^◌, All, length, get_or, arith, inl, inr, sym}
+use Rattle.std.specs.List.{range_with_len, remove}
 use Rattle.std.proofs.lemmas.Bool.{cases_lt}
 use Rattle.std.proofs.lemmas.Nat.{mod_below}
 use Rattle.std.proofs.lemmas.List.Edits.{get_or-remove_above, get_or-remove_below, length-remove}
