@@ -1,0 +1,4 @@
+pub mod DrawnLists
+pub mod MadeNames
+pub mod ValidBallots
+pub mod AdmittedNames
