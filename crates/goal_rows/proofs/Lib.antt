@@ -22,3 +22,4 @@ pub mod FoundPlaces
 pub mod Seen
 pub mod Classed
 pub mod PairPoints
+pub mod LongerGrounds

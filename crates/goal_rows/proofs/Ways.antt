@@ -1,5 +1,5 @@
 -- Ways from the root through covers to goals.
-use Rattle.std.proofs.Common.{ℕ, zero, suc, List, [], ◌∷◌, ◌++◌, Bool, true, false, Some, None, ◌≡◌, ◌≢◌, ◌<◌, ◌∙◌, ◌↔◌, cond, length, get_or, ap, sym, refl, subst, inl, inr, arith}
+use Rattle.std.proofs.Common.{ℕ, zero, suc, List, [], ◌∷◌, ◌++◌, Bool, true, false, Some, None, ◌≡◌, ◌≢◌, ◌<◌, ◌≤◌, ◌∙◌, ◌↔◌, cond, length, get_or, ap, sym, refl, subst, inl, inr, arith}
 use Rattle.std.specs.Prelude.{Contains, AllPairs, not, nat_lt}
 use Rattle.std.proofs.lemmas.Bool.{cases_lt}
 use Rattle.std.proofs.lemmas.Bool.Decides.{nat_tests}
@@ -129,7 +129,7 @@ reached_back e places goal back = (turned places [], to_from e places goal [] go
 ends_on : (e : Election) (z : ℕ) (suffix : List ℕ) → EndsInRoot e suffix → EndsInRoot e (z ∷ suffix)
 ends_on e z suffix (y, (i, long, at), there) = (y, (suc i, omega (arith, long), at), there)
 
-longer_valid : (c z : ℕ) (suffix : List ℕ) → IsValidBallot c suffix → z < c → member z suffix ≡ false → IsValidBallot c (z ∷ suffix)
+pub longer_valid : (c z : ℕ) (suffix : List ℕ) → IsValidBallot c suffix → z < c → member z suffix ≡ false → IsValidBallot c (z ∷ suffix)
 longer_valid c z suffix valid zc out = record {
   below = All-cons (λ y. y < c) z suffix zc valid.below;
   distinct = AllPairs-cons (λ a b. a ≢ b) z suffix (λ k d lt same.
@@ -239,6 +239,10 @@ reached_suffix e suffix are reached =
 
 pub reached_cover : (e : Election) (x : ℕ) → AreRoots e → IsReached e (Cover x) → (e.rule ≡ Condorcet) × (x < e.poll.c)
 reached_cover e x are reached = root_is e (Cover x) are ((reached_exactly e (Cover x) are).0 reached)
+
+-- a reached suffix has some candidate
+pub reached_some : (e : Election) (suffix : List ℕ) → AreRoots e → IsReached e (Suffix suffix) → 1 ≤ length suffix
+reached_some e suffix are reached = let long = ((reached_exactly e (Suffix suffix) are).0 reached).1.1.1 in omega (arith, long)
 
 -- ---- in just one way
 

@@ -8,3 +8,4 @@ pub mod KeyCounts
 pub mod Races
 pub mod Pairs
 pub mod SeatGains
+pub mod LongerKeys

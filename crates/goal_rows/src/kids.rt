@@ -43,7 +43,7 @@ fn longer(alloc: Global, c: u8, suffix: &[Cand]) -> Result<Option<GoalList>, Mem
 }
 
 /// Whether the candidate is one of these.
-fn has(candidates: &[Cand], z: Cand) -> bool
+pub(crate) fn has(candidates: &[Cand], z: Cand) -> bool
     ensures { result ≡ member z candidates.now }
 {
     for x in candidates {
@@ -55,7 +55,7 @@ fn has(candidates: &[Cand], z: Cand) -> bool
 }
 
 /// The suffix with the candidate put in front.
-fn in_front(alloc: Global, z: Cand, suffix: &[Cand]) -> Result<Ranking, Memory>
+pub(crate) fn in_front(alloc: Global, z: Cand, suffix: &[Cand]) -> Result<Ranking, Memory>
     requires distinct { AreDistinct suffix.now }
     requires another { member z suffix.now ≡ false }
     ensures { IfOk result (λ ranking. ranking ≡ z ∷ suffix.now) }

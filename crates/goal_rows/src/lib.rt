@@ -5,11 +5,13 @@
 //! `reported` answers the reported outcome. `race` gives the goals below the root, and promises for every rule that the
 //! outcome turns exactly where all rows of some complete goal hold; `race_with` takes other goals below the root.
 //! `cover` gives the goals that a goal is split into, and each complete goal is reached from the root in just one way;
-//! `ground` keeps what is known of a goal before any replacement. The crate stands on `ballot_form`, on
-//! `signature_class` and on the crates that count.
+//! `ground` keeps what is known of a goal before any replacement, and `kid_grounds` what is known of all goals that it is
+//! split into, in one pass over the kinds of ballots. The crate stands on `ballot_form`, on `signature_class` and on the
+//! crates that count.
 #![tactic(auto)]
 
 mod complete;
+mod cover_grounds;
 mod goals;
 mod grounds;
 mod kids;
@@ -22,6 +24,7 @@ mod rows;
 mod sums;
 
 pub use complete::is_complete;
+pub use cover_grounds::kid_grounds;
 pub use goals::{Goal, GoalList};
 pub use grounds::{ground, key};
 pub use kids::{cover, kid_count};

@@ -39,3 +39,6 @@ pub struct Ground {
     /// The weight of the ballot that ranks a pair's gainer alone; 1 for a cover; 0 for the root and for a suffix.
     pub lone: i64,
 }
+
+/// A list of grounds.
+pub type GroundList = List<Ground>;
