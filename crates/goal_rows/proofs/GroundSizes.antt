@@ -1,5 +1,5 @@
 -- How large what is known of a goal is.
-use Rattle.std.proofs.Common.{ℕ, zero, suc, List, [], ◌∷◌, ◌++◌, Bool, true, false, ◌≡◌, ◌≢◌, ◌<◌, ◌≤◌, ◌+◌, ◌-◌, ◌*◌, ◌/◌, ◌∙◌, cond, length, map, get_or, replicate, sym, refl, ap, subst, arith}
+use Rattle.std.proofs.Common.{ℕ, zero, suc, List, [], ◌∷◌, ◌++◌, Bool, true, false, ◌≡◌, ◌<◌, ◌≤◌, ◌+◌, ◌-◌, ◌*◌, ◌∙◌, cond, length, map, get_or, replicate, sym, refl, ap, subst, arith}
 use Rattle.std.specs.Prelude.{All, nat_eq, unsigned_abs, ℤ, pos, ◌+ℤ◌, ◌-ℤ◌, ◌≤ℤ◌}
 use Rattle.std.specs.List.{flat_map, range_with_len}
 use Rattle.std.proofs.Math.IntN.{negsuc}
@@ -22,7 +22,6 @@ use Rattle.row_program.specs.declared.Limit.{Limit}
 use Rattle.row_program.specs.Bounds.{IsProgram, IsRow}
 use Rattle.row_program.specs.declared.program.Row.{Row}
 use Rattle.row_program.specs.declared.limits.TheConstants.{MOST_LIMITS}
-use Rattle.sig_graph.specs.Paths.{arcs_of}
 use Rattle.sig_graph.proofs.ArcNumbers.{length-arcs_of}
 use Rattle.signature_class.specs.Signatures.{suffix_key}
 use Rattle.std.proofs.Math.Nat.{mul-le-mul}
@@ -30,14 +29,13 @@ use Rattle.std.proofs.lemmas.List.Concat.{flat_map-cons}
 use Rattle.std.proofs.lemmas.Slice.Zip.{length-zip}
 use Rattle.std.specs.List.{zip}
 use Rattle.goal_rows.specs.Elections.{Election}
-use Rattle.goal_rows.specs.KeyCounts.{is_held, lead_by, round_values, suffix_values}
+use Rattle.goal_rows.specs.KeyCounts.{is_held, lead_by, round_values}
 use Rattle.goal_rows.specs.Programs.{arcs_under, class_row, class_rows_of, costs_of, flow_rows_of, flow_weighings, goal_rows_of, limit_rows_of, program_rows, row_by, value_before, weighings_of, weights_by}
-use Rattle.goal_rows.specs.declared.weighings.Weighing.{Weighing}
 use Rattle.goal_rows.specs.declared.weighings.Weighing.TheVariants.{Held, Limited, Over, Through}
 use Rattle.goal_rows.proofs.KeyRows.{suffix_values_are}
 use Rattle.goal_rows.specs.Goals.{IsElection, IsReached, gainer_points, loser_points, pair_weight, rows_of}
-use Rattle.goal_rows.specs.Races.{IsGroundIn, IsGroundOf, IsSomeGround, key_of, keys_of, lone_weight}
-use Rattle.goal_rows.specs.Suffixes.{cover_rows, hold_points, hold_weight, others, prefer_points, prefer_weight, suffix_rows}
+use Rattle.goal_rows.specs.Races.{IsSomeGround, key_of, keys_of, lone_weight}
+use Rattle.goal_rows.specs.Suffixes.{cover_rows, hold_weight, others, prefer_weight, suffix_rows}
 use Rattle.goal_rows.specs.declared.goals.Goal.{Goal}
 use Rattle.goal_rows.specs.declared.goals.Goal.TheVariants.{Root, Suffix, Pair, Cover}
 use Rattle.goal_rows.specs.declared.parts.Ground.{Ground}

@@ -1,18 +1,17 @@
 -- The rows of a node's program, variable by variable.
-use Rattle.std.proofs.Common.{ℕ, zero, suc, List, [], ◌∷◌, ◌++◌, Bool, true, false, ◌≡◌, ◌≢◌, ◌<◌, ◌≤◌, ◌+◌, ◌-◌, ◌*◌, ◌∙◌, cond, take, length, map, get_or, replicate, FitsSigned, w64, sym, refl, ap, arith}
-use Rattle.std.specs.Prelude.{All, AllPairs, Contains, ℤ, pos, unsigned_abs}
+use Rattle.std.proofs.Common.{ℕ, zero, suc, List, [], ◌∷◌, ◌++◌, Bool, ◌≡◌, ◌<◌, ◌+◌, ◌∙◌, take, length, map, get_or, replicate, FitsSigned, w64, sym, refl, ap, arith}
+use Rattle.std.specs.Prelude.{All, ℤ, pos, unsigned_abs}
 use Rattle.std.proofs.lemmas.Int.{fits_signed_from_abs}
 use Rattle.std.proofs.lemmas.List.{append_assoc, get_or_default, length-append, length-map, map-append, take_more}
 use Rattle.std.specs.List.{range_with_len, zip}
 use Rattle.std.proofs.lemmas.Slice.Zip.{get_or-zip}
 use Rattle.std.proofs.lemmas.List.FromFn.{map-range_with_len_more}
-use Rattle.std.proofs.lemmas.List.Elements.{All-append, All-get_or, All-map}
+use Rattle.std.proofs.lemmas.List.Elements.{All-get_or}
 use Rattle.row_program.specs.Bounds.{IsRow}
 use Rattle.row_program.specs.declared.limits.TheConstants.{TERM_LIMIT}
 use Rattle.row_program.specs.declared.Limit.{Limit}
 use Rattle.row_program.specs.declared.program.Row.{Row}
-use Rattle.row_program.specs.declared.program.Term.{Term}
-use Rattle.goal_rows.specs.Programs.{arc_weight, is_some_weight, key_weight, row_by, term_at, terms_of, value_before, weight_of, weights_by}
+use Rattle.goal_rows.specs.Programs.{arc_weight, is_some_weight, key_weight, row_by, term_at, value_before, weight_of, weights_by}
 use Rattle.goal_rows.specs.declared.weighings.Weighing.{Weighing}
 use Rattle.goal_rows.specs.declared.weighings.Weighing.TheVariants.{Limited}
 use Rattle.goal_rows.specs.Suffixes.{those}

@@ -1,7 +1,7 @@
 -- The program of a node: rows over whole variables that are at least 0, one for each class of ballots, how many of it are
 -- replaced, and under a suffix one for each arc, how many new ballots' signatures use it. Replacements that meet the node
 -- are a point of it, and it costs as much as there are replacements.
-use Rattle.std.specs.Prelude.{◌≡◌, ℕ, ◌+◌, ◌-◌, ◌==◌, ◌<◌, ◌≤◌, ◌&&◌, not, Bool, true, false, List, [], ◌∷◌, ◌++◌, All, if◌then◌else◌, length, map, replicate, slice_index_or, unsigned_abs, ℤ, pos, ◌+ℤ◌, ◌-ℤ◌}
+use Rattle.std.specs.Prelude.{ℕ, ◌+◌, ◌-◌, ◌==◌, ◌&&◌, not, Bool, false, List, [], ◌∷◌, ◌++◌, if◌then◌else◌, length, map, replicate, slice_index_or, unsigned_abs, ℤ, pos, ◌+ℤ◌, ◌-ℤ◌}
 use Rattle.std.specs.List.{flat_map, range_with_len, zip}
 use Rattle.irv_count.specs.Orders.{stands}
 use Rattle.row_program.specs.declared.Feature.{Feature}

@@ -1,4 +1,4 @@
-use Rattle.std.proofs.Common.{[], ◌∙◌, ap, sym}
+use Rattle.std.proofs.Common.{[]}
 use Rattle.std.specs.Prelude.{◌==◌, not}
 use Rattle.goal_rows.specs.declared.weighings.Weighing.TheVariants.{Over}
 use Rattle.goal_rows.proofs.Lists.{added_none, added_one, is_no_other, is_other}

@@ -1,8 +1,8 @@
-use Rattle.std.proofs.Common.{List, ◌≡◌, ◌≤◌, ◌++◌, ◌+◌, ◌∙◌, length, ap, subst, arith}
+use Rattle.std.proofs.Common.{List, ◌≡◌, ◌++◌, ◌+◌, ◌∙◌, length, ap, subst, arith}
 use Rattle.std.specs.Prelude.{All}
 use Rattle.row_program.specs.Bounds.{IsRow}
 use Rattle.row_program.specs.declared.program.Row.{Row}
-use Rattle.goal_rows.specs.Programs.{arcs_under, class_rows_of, costs_of, flow_rows_of, goal_rows_of, limit_rows_of, program_rows}
+use Rattle.goal_rows.specs.Programs.{class_rows_of, costs_of, flow_rows_of, goal_rows_of, limit_rows_of, program_rows}
 use Rattle.goal_rows.proofs.GroundSizes.{classes_small, few_arcs, few_sums, program_fits}
 use Rattle.goal_rows.proofs.programs.program_of.Goals as goal
 

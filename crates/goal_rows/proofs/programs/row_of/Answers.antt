@@ -1,12 +1,11 @@
 use Rattle.std.proofs.Common.{List, ◌≡◌, ◌++◌, ◌+◌, ◌<◌, ◌∙◌, length, map, FitsSigned, w64, ap, subst, sym}
-use Rattle.std.specs.Prelude.{All, unsigned_abs, ℤ}
-use Rattle.std.proofs.lemmas.Int.{fits_signed_from_abs, to_z-of_z}
-use Rattle.std.proofs.lemmas.List.{length-append, length-map}
+use Rattle.std.specs.Prelude.{All, unsigned_abs}
+use Rattle.std.proofs.lemmas.Int.{to_z-of_z}
 use Rattle.row_program.specs.Bounds.{IsRow}
 use Rattle.row_program.specs.declared.limits.TheConstants.{TERM_LIMIT}
 use Rattle.row_program.specs.declared.program.Row.{Row}
 use Rattle.row_program.specs.declared.program.Term.{Term}
-use Rattle.goal_rows.specs.Programs.{arc_weight, key_weight, row_by, terms_of, weights_by}
+use Rattle.goal_rows.specs.Programs.{arc_weight, terms_of, weights_by}
 use Rattle.goal_rows.proofs.ProgramRows.{few_fit, small_row, weights_count}
 use Rattle.goal_rows.proofs.programs.row_of.Goals as goal
 

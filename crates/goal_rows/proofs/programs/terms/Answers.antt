@@ -1,4 +1,4 @@
-use Rattle.std.proofs.Common.{[], ◌∷◌, ◌++◌, ◌≡◌, ◌<◌, ◌∙◌, length, get_or, w64, true, false, FitsSigned, ap, sym, arith}
+use Rattle.std.proofs.Common.{[], ◌≡◌, ◌∙◌, get_or, w64, FitsSigned, sym, arith}
 use Rattle.std.specs.Prelude.{pos}
 use Rattle.std.proofs.lemmas.Int.{fits_signed_from_abs, to_z-of_z}
 use Rattle.goal_rows.specs.Programs.{is_some_weight, term_at, weight_of}
