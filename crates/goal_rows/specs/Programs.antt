@@ -1,6 +1,6 @@
--- The program of a node: rows over whole variables that are at least 0, one for each class of ballots, how many of it are
--- replaced, and under a suffix one for each arc, how many new ballots' signatures use it. Replacements that meet the node
--- are a point of it, and it costs as much as there are replacements.
+-- The program of a node: rows over whole variables, each of which is to be at least 0. A class of ballots has a
+-- variable, how many of it are replaced, and under a suffix each arc has one, how many new ballots' signatures use it.
+-- The rows and limits of the node count these; further rows bound the classes, and make the arcs a flow.
 use Rattle.std.specs.Prelude.{ℕ, ◌+◌, ◌-◌, ◌==◌, ◌&&◌, not, Bool, false, List, [], ◌∷◌, ◌++◌, if◌then◌else◌, length, map, replicate, slice_index_or, unsigned_abs, ℤ, pos, ◌+ℤ◌, ◌-ℤ◌}
 use Rattle.std.specs.List.{flat_map, range_with_len, zip}
 use Rattle.irv_count.specs.Orders.{stands}
@@ -93,11 +93,15 @@ terms_of weights = map (term_at weights) (those (length weights) (λ v. is_some_
 abbrev pub row_by : ℤ → List ℤ → Row
 row_by constant weights = record { constant = constant; terms = terms_of weights }
 
+-- how the rows of a suffix of m candidates count, in their order
+abbrev pub held_rows : ℕ → List Weighing
+held_rows m = flat_map (λ i. map (λ j. Held i j) (range_with_len (i + 1) (m - (i + 1)))) (range_with_len 0 m)
+
 -- how the rows of a goal count, in their order
 abbrev pub weighings_of : Ground → List Weighing
 weighings_of start = elim start.goal [
   | Root ↦ []
-  | Suffix suffix ↦ flat_map (λ i. map (λ j. Held i j) (range_with_len (i + 1) (length suffix - (i + 1)))) (range_with_len 0 (length suffix))
+  | Suffix suffix ↦ held_rows (length suffix)
   | Pair g l ↦ Level (unsigned_abs (start.lone +ℤ pos 1024)) ∷ []
   | Cover x ↦ map (λ j. Over x j) (others (length start.sums + 1) x)
 ]
@@ -123,8 +127,8 @@ class_row k n = record { constant = pos n; terms = (record { variable = k; times
 abbrev pub class_rows_of : List (ℕ × ℕ) → List Row
 class_rows_of classes = map (λ k. class_row k (slice_index_or classes k (0, 0)).1) (range_with_len 0 (length classes))
 
--- how the rows of the flow count: no more paths leave the start than ballots are replaced, and no more leave a place than
--- come to it
+-- how the rows of the flow count: no more paths leave the start than ballots are replaced, and no more leave a place
+-- than come to it
 abbrev pub flow_weighings : Goal → List Weighing
 flow_weighings Root = []
 flow_weighings (Suffix suffix) = Leaving ∷ map (λ p. Through p) (range_with_len 1 (length suffix - 1))
@@ -133,10 +137,11 @@ flow_weighings (Cover x) = []
 
 abbrev pub flow_rows_of : Ground → List Row
 flow_rows_of start =
-    map (λ weighing. row_by (pos 0) (weights_by weighing start.classes (arcs_under start.goal))) (flow_weighings start.goal)
+    map (λ weighing. row_by (pos 0) (weights_by weighing start.classes (arcs_under start.goal)))
+    (flow_weighings start.goal)
 
--- all rows of a node: those of the goal and of the limits, which get multipliers, and then those of the classes and of the
--- flow
+-- all rows of a node: those of the goal and of the limits, which get multipliers, and then those of the classes and of
+-- the flow
 abbrev pub program_rows : Ground → List Limit → List Row
 program_rows start limits =
     goal_rows_of start ++ limit_rows_of start limits ++ class_rows_of start.classes ++ flow_rows_of start

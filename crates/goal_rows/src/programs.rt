@@ -30,9 +30,9 @@ use std::alloc::Global;
 pub const MOST_CLASSES: usize = 4_096;
 
 /// The program of the node, which is the goal of `start` with these limits. Its variables are, for each class, how many
-/// ballots of it are replaced, and under a suffix then for each arc how many new ballots' signatures use it; the classes'
-/// cost 1, the arcs' 0. Its rows are those of the goal and those of the limits, which get multipliers, and then one for
-/// each class, and under a suffix one for the start and one for each place but the last.
+/// ballots of it are replaced, and under a suffix then for each arc how many new ballots' signatures use it; those of
+/// the classes cost 1, those of the arcs 0. Its rows are those of the goal and those of the limits, which get
+/// multipliers, and then one for each class, and under a suffix one for the start and one for each place but the last.
 pub fn program_of(alloc: Global, start: &Ground, limits: &[Limit]) -> Result<Program, Memory>
     requires start { IsSomeGround start.now }
     requires limits { (e : Election) → IsGroundIn e start.now → AreLimits e (node_of start.now limits.now) }
