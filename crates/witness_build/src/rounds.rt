@@ -1,5 +1,5 @@
 // The last round of instant runoff.
-ghost use Rattle.std.specs.Prelude.{◌≡◌, ◌≤◌, ◌+◌, ◌++◌, ◌<◌, IfOk, OnOk, map, take};
+ghost use Rattle.std.specs.Prelude.{◌≡◌, ◌≤◌, ◌+◌, ◌++◌, ◌<◌, ◌^◌, IfOk, OnOk, map, take};
 ghost use Rattle.std.specs.List.{range_with_len};
 ghost use Rattle.alteration_model.specs.Faults.{pairs_of};
 ghost use Rattle.ballot_form.specs.declared.rule.Rule.TheVariants.{Irv};
