@@ -1,7 +1,9 @@
 -- One candidate more, and one ballot more.
 use Rattle.std.proofs.Common.{ℕ, suc, List, [], ◌∷◌, ◌++◌, ◌≡◌, ◌<◌, ◌+◌, ◌-◌, ◌*◌, ◌∙◌, length, get_or, ap, sym, append_assoc, refl, arith}
-use Rattle.std.specs.List.{remove}
-use Rattle.ballot_make.specs.Made.{ballot_drawn, ballots_drawn, candidates_drawn, lesser_drawn, state_after}
+use Rattle.std.specs.List.{range_with_len, remove}
+use Rattle.std.proofs.lemmas.List.FromFn.{length-range_with_len}
+use Rattle.ballot_form.specs.Ballots.{Poll}
+use Rattle.ballot_make.specs.Made.{ballot_drawn, ballots_drawn, candidates_drawn, lesser_drawn, next_state, number_drawn, state_after}
 
 -- one candidate more is taken
 pub ballot_step : (done left : List ℕ) (state count i place x : ℕ) (whole : List ℕ) → i < count
@@ -22,9 +24,23 @@ pub state_more : (state count i : ℕ) → i < count
 state_more state count i more =
     let e : 2 * (count - i) ≡ suc (suc (2 * (count - (i + 1)))) = omega arith in rw e refl
 
--- what is left to draw, after i of so many ballots: one, and then the others
-pub ballots_more : (c n i state : ℕ) → i < n
-    → ballots_drawn c (n - i) state
+-- a ballot is what is drawn of all candidates, as many as the first draw says
+pub ballot_begun : (c state state' count : ℕ) (left : List ℕ) → left ≡ range_with_len 0 c → state' ≡ next_state state
+    → count ≡ number_drawn state (length left + 1) → candidates_drawn state' left count ≡ ballot_drawn c state
+ballot_begun c state state' count left all next is =
+    let size : length left ≡ c = ap (λ (xs : List ℕ). length xs) all ∙ length-range_with_len 0 c in
+    rw (is, size, all, next) refl
+
+-- one ballot more is drawn, and added to the roll
+pub roll_step : (old new : Poll) (ballot row : List ℕ) (c n i state state' : ℕ) (whole : List (List ℕ)) → i < n
+    → old.ballots ++ ballots_drawn c (n - i) state ≡ whole → ballot ≡ ballot_drawn c state
+    → state' ≡ state_after (2 * length ballot + 1) state → row ≡ ballot
+    → new ≡ record old { ballots = old.ballots ++ row ∷ [] }
+    → new.ballots ++ ballots_drawn c (n - (i + 1)) state' ≡ whole
+roll_step old new ballot row c n i state state' whole more so_far is next same one =
+    rw (one, next, same, is)
+    (append_assoc old.ballots (ballot_drawn c state ∷ []) _ ∙ sym (ap (λ rest. old.ballots ++ rest) one_more) ∙ so_far)
+  where
+    one_more : ballots_drawn c (n - i) state
         ≡ ballot_drawn c state ∷ ballots_drawn c (n - (i + 1)) (state_after (2 * length (ballot_drawn c state) + 1) state)
-ballots_more c n i state more =
-    let e : n - i ≡ suc (n - (i + 1)) = omega arith in rw e refl
+    one_more = let e : n - i ≡ suc (n - (i + 1)) = omega arith in rw e refl

@@ -9,6 +9,7 @@ use mov_base::Memory;
 use std::alloc::Global;
 
 /// Draws a ballot: its length, and then its candidates.
+#[tactic(auto, using(crate::proofs::DrawnLists::ballot_begun))]
 pub fn draw_ballot(alloc: Global, c: u8, draws: &mut Draws) -> Result<Vec<Cand>, Memory>
     ensures ballot { IfOk result (λ ballot. ballot.items ≡ ballot_drawn c draws.old.state) }
     ensures state { IfOk result (λ ballot.
@@ -27,6 +28,7 @@ fn all_candidates(alloc: Global, c: u8) -> Result<Vec<Cand>, Memory>
 }
 
 /// Takes so many of the candidates that are left, each at the lesser of two draws.
+#[tactic(auto, using(crate::proofs::DrawnLists::ballot_step, crate::proofs::DrawnLists::state_more))]
 fn take_candidates(
     alloc: Global,
     count: usize,

@@ -7,6 +7,7 @@ use mov_base::Memory;
 use std::alloc::Global;
 
 /// The names `C0`, `C1` and so on.
+#[tactic(auto, using(crate::proofs::MadeNames::names_more))]
 pub fn make_names(alloc: Global, c: u8) -> Result<Names, Memory>
     ensures { IfOk result (λ names. names ≡ names_made c) }
 {
