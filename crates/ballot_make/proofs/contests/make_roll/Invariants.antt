@@ -1,4 +1,4 @@
-use Rattle.std.proofs.Common.{◌≡◌, ◌≤◌, ◌+◌, ◌-◌, ◌++◌, length}
+use Rattle.std.proofs.Common.{◌≡◌, ◌-◌, ◌++◌, length}
 use Rattle.ballot_make.specs.Made.{ballots_drawn}
 use Rattle.ballot_make.proofs.contests.make_roll.Given as goal
 
