@@ -1,9 +1,11 @@
 -- One candidate more, and one ballot more.
-use Rattle.std.proofs.Common.{ℕ, suc, List, [], ◌∷◌, ◌++◌, ◌≡◌, ◌<◌, ◌+◌, ◌-◌, ◌*◌, ◌∙◌, length, get_or, ap, sym, append_assoc, refl, arith}
+use Rattle.std.proofs.Common.{ℕ, suc, List, [], ◌∷◌, ◌++◌, ◌≡◌, ◌<◌, ◌+◌, ◌-◌, ◌*◌, ◌∙◌, length, get_or, ap, sym}
+use Rattle.std.proofs.Common.{append_assoc, refl, arith}
 use Rattle.std.specs.List.{range_with_len, remove}
 use Rattle.std.proofs.lemmas.List.FromFn.{length-range_with_len}
 use Rattle.ballot_form.specs.Ballots.{Poll}
-use Rattle.ballot_make.specs.Made.{ballot_drawn, ballots_drawn, candidates_drawn, lesser_drawn, next_state, number_drawn, state_after}
+use Rattle.ballot_make.specs.Made.{ballot_drawn, ballots_drawn, candidates_drawn, lesser_drawn, next_state}
+use Rattle.ballot_make.specs.Made.{number_drawn, state_after}
 
 -- one candidate more is taken
 pub ballot_step : (done left : List ℕ) (state count i place x : ℕ) (whole : List ℕ) → i < count
@@ -15,7 +17,7 @@ ballot_step done left state count i place x whole more at is so_far =
   where
     one_more : candidates_drawn state left (count - i)
         ≡ get_or left (lesser_drawn state (length left)) 0
-            ∷ candidates_drawn (state_after 2 state) (remove left (lesser_drawn state (length left))) (count - (i + 1))
+        ∷ candidates_drawn (state_after 2 state) (remove left (lesser_drawn state (length left))) (count - (i + 1))
     one_more = let e : count - i ≡ suc (count - (i + 1)) = omega arith in rw e refl
 
 -- the draws that are left
@@ -42,5 +44,6 @@ roll_step old new ballot row c n i state state' whole more so_far is next same o
     (append_assoc old.ballots (ballot_drawn c state ∷ []) _ ∙ sym (ap (λ rest. old.ballots ++ rest) one_more) ∙ so_far)
   where
     one_more : ballots_drawn c (n - i) state
-        ≡ ballot_drawn c state ∷ ballots_drawn c (n - (i + 1)) (state_after (2 * length (ballot_drawn c state) + 1) state)
+        ≡ ballot_drawn c state
+        ∷ ballots_drawn c (n - (i + 1)) (state_after (2 * length (ballot_drawn c state) + 1) state)
     one_more = let e : n - i ≡ suc (n - (i + 1)) = omega arith in rw e refl

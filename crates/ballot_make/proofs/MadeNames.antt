@@ -1,12 +1,17 @@
 -- The names of made candidates.
-use Rattle.std.proofs.Common.{ℕ, true, List, [], ◌∷◌, ◌++◌, ◌≡◌, ◌≢◌, ◌<◌, ◌≤◌, ◌+◌, ◌∙◌, All, codes, decimal, length, get_or, arith, sym}
-use Rattle.std.specs.List.{AllPairs}
+use Rattle.std.proofs.Common.{ℕ, true, List, [], ◌∷◌, ◌++◌, ◌≡◌, ◌≢◌, ◌<◌, ◌≤◌, ◌+◌, ◌∙◌, All, codes, decimal, length}
+use Rattle.std.proofs.Common.{get_or, arith, refl, sym, subst, zero-add}
+use Rattle.std.specs.List.{AllPairs, list_all, range_with_len}
+use Rattle.std.specs.Fmt.{digits}
+use Rattle.std.specs.Str.{chars, is_utf8}
+use lib.Utf8.{encode}
 use Rattle.std.proofs.lemmas.Fmt.{decimal_injective}
 use Rattle.std.proofs.lemmas.List.{append_cancel_left}
-use Rattle.std.proofs.lemmas.List.FromFn.{get_or-map-range_with_len, length-map-range_with_len, map-range_with_len_more}
+use Rattle.std.proofs.lemmas.List.FromFn.{get_or-map-range_with_len, get_or-range_with_len, length-map-range_with_len}
+use Rattle.std.proofs.lemmas.List.FromFn.{map-range_with_len_more}
+use Rattle.std.proofs.lemmas.List.Sums.{AllPass-from_list_all}
 use Rattle.ballot_form.specs.declared.limits.TheConstants.{MOST_CANDIDATES}
 use Rattle.ballot_form.specs.Names.{is_name}
-use Rattle.ballot_make.proofs.AdmittedNames.{name_admitted}
 use Rattle.ballot_make.specs.Made.{name_of, names_made}
 
 -- one name more
@@ -30,7 +35,15 @@ names_distinct c few i j d before below same =
     append_cancel_left (codes "C") (decimal i) (decimal j) (sym (name_at c i d first) ∙ same ∙ name_at c j d below) in
     omega (arith, decimal_injective i j (omega arith) (omega arith) numbers)
 
+all_admitted : list_all (λ x. is_name (name_of x)) (range_with_len 0 MOST_CANDIDATES) ≡ true
+unfolding is_utf8 digits chars encode
+all_admitted = refl
+
 -- a ballot file admits the names
 pub names_admitted : (c : ℕ) → c ≤ MOST_CANDIDATES → All (λ name. is_name name ≡ true) (names_made c)
 names_admitted c few k d below =
-    rw (name_at c k d below) (name_admitted k (omega (arith, length_names c)))
+    let within : k < MOST_CANDIDATES = omega (arith, length_names c) in
+    let table : k < length (range_with_len 0 MOST_CANDIDATES) = within in
+    let P : ℕ → Type 0 = λ x. is_name (name_of x) ≡ true in
+    rw (name_at c k d below) (subst P (get_or-range_with_len 0 MOST_CANDIDATES k 0 within ∙ zero-add k)
+    (AllPass-from_list_all (λ (x : ℕ). is_name (name_of x)) (range_with_len 0 MOST_CANDIDATES) all_admitted k 0 table))

@@ -1,12 +1,20 @@
 -- Contests that a seed determines.
-use Rattle.std.specs.Prelude.{ℕ, ◌+◌, ◌*◌, ◌/◌, ◌%◌, ◌^◌, List, [], ◌∷◌, ◌++◌, codes, decimal, length, map, min, slice_index}
+use Rattle.std.specs.Prelude.{ℕ, ◌+◌, ◌*◌, ◌/◌, ◌%◌, ◌^◌, List, [], ◌∷◌, ◌++◌, codes, decimal, length, map, min}
+use Rattle.std.specs.Prelude.{slice_index}
 use Rattle.std.proofs.Common.{zero, suc}
 use Rattle.std.specs.List.{range_with_len, remove}
 use Rattle.ballot_form.specs.Ballots.{Poll}
 
--- the state after a draw: the linear congruential generator of this multiplier and increment, modulo 2^64
+-- the multiplier and the increment of the generator: those of Knuth's MMIX
+abbrev pub multiplier : ℕ
+multiplier = 6364136223846793005
+
+abbrev pub increment : ℕ
+increment = 1442695040888963407
+
+-- the state after a draw: a linear congruential generator modulo 2^64
 abbrev pub next_state : ℕ → ℕ
-next_state state = (state * 6364136223846793005 + 1442695040888963407) % 2 ^ 64
+next_state state = (state * multiplier + increment) % 2 ^ 64
 
 -- the state after so many draws
 abbrev pub state_after : ℕ → ℕ → ℕ
@@ -21,7 +29,7 @@ number_drawn state bound = next_state state / 2 ^ 33 % bound
 abbrev pub lesser_drawn : ℕ → ℕ → ℕ
 lesser_drawn state bound = min (number_drawn state bound) (number_drawn (next_state state) bound)
 
--- so many of the candidates that are left, one after another, each taken at the lesser of two draws
+-- so many of the candidates that are left, which ascend: each is the one at the lesser of two draws, and is left no more
 abbrev pub candidates_drawn : ℕ → List ℕ → ℕ → List ℕ
 candidates_drawn state left zero = []
 candidates_drawn state left (suc count) =

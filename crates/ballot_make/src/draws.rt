@@ -2,7 +2,9 @@
 ghost use Rattle.std.specs.Prelude.{◌≡◌, ◌<◌};
 ghost use Rattle.ballot_make.specs.Made.{lesser_drawn, next_state, number_drawn, state_after};
 
+// The multiplier and the increment of Knuth's MMIX.
 const MULTIPLIER: u64 = 6_364_136_223_846_793_005;
+
 const INCREMENT: u64 = 1_442_695_040_888_963_407;
 
 /// A source of drawn numbers. The numbers still to be drawn depend on its state alone.
