@@ -29,7 +29,7 @@ number_drawn state bound = next_state state / 2 ^ 33 % bound
 abbrev pub lesser_drawn : ℕ → ℕ → ℕ
 lesser_drawn state bound = min (number_drawn state bound) (number_drawn (next_state state) bound)
 
--- so many of the candidates that are left, which ascend: each is the one at the lesser of two draws, and is left no more
+-- so many of the candidates that are left, which ascend: each stands at the lesser of two draws, and is left no more
 abbrev pub candidates_drawn : ℕ → List ℕ → ℕ → List ℕ
 candidates_drawn state left zero = []
 candidates_drawn state left (suc count) =
