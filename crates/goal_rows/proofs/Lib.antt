@@ -23,3 +23,5 @@ pub mod Seen
 pub mod Classed
 pub mod PairPoints
 pub mod LongerGrounds
+pub mod ProgramRows
+pub mod GroundSizes

@@ -9,3 +9,4 @@ pub mod Races
 pub mod Pairs
 pub mod SeatGains
 pub mod LongerKeys
+pub mod Programs

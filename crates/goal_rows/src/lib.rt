@@ -5,9 +5,10 @@
 //! `reported` answers the reported outcome. `race` gives the goals below the root, and promises for every rule that the
 //! outcome turns exactly where all rows of some complete goal hold; `race_with` takes other goals below the root.
 //! `cover` gives the goals that a goal is split into, and each complete goal is reached from the root in just one way;
-//! `ground` keeps what is known of a goal before any replacement, and `kid_grounds` what is known of all goals that it is
-//! split into, in one pass over the kinds of ballots. The crate stands on `ballot_form`, on `signature_class` and on the
-//! crates that count.
+//! `ground` keeps what is known of a goal before any replacement, and `kid_grounds` what is known of all goals that it
+//! is split into, in one pass over the kinds of ballots. `program_of` gives the program of a node: its rows and limits
+//! over how many ballots of each class are replaced, and by what. The crate stands on `ballot_form`, on
+//! `signature_class`, on the arcs of `sig_graph`, on the programs of `row_program` and on the crates that count.
 #![tactic(auto)]
 
 mod complete;
@@ -19,9 +20,11 @@ mod laws;
 mod outcomes;
 pub mod parts;
 mod points;
+mod programs;
 mod races;
 mod rows;
 mod sums;
+mod weighings;
 
 pub use complete::is_complete;
 pub use cover_grounds::kid_grounds;
@@ -36,5 +39,6 @@ pub use laws::{
     the_outcome_turns_where_a_goal_holds, the_root_goals_are_roots,
 };
 pub use outcomes::reported;
+pub use programs::{MOST_CLASSES, program_of};
 pub use races::{race, race_with};
 pub use rows::{MOST_ROWS, row_count, rows_hold};

@@ -127,7 +127,7 @@ fn count_where<F: Fn(u64) -> bool>(classes: &Classes, test: F) -> u64
 }
 
 /// The first bit of the key that is set, from bit i on.
-fn first_bit(key: u64, i: u8) -> Option<u8>
+pub(crate) fn first_bit(key: u64, i: u8) -> Option<u8>
     ensures value { result ≡ first_bit_from i key }
     ensures within { IfSome result (λ k. k < MOST_PLACES) }
 {
@@ -140,7 +140,7 @@ fn first_bit(key: u64, i: u8) -> Option<u8>
 }
 
 /// Whether, by its key under the cover of `x`, a ballot prefers `x` to `j`.
-fn is_over(key: u64, x: Cand, j: Cand) -> bool
+pub(crate) fn is_over(key: u64, x: Cand, j: Cand) -> bool
     ensures { result ≡ over_by_key x j key }
 {
     stands_in(key, x) && !stands_in(key, j)

@@ -1,6 +1,8 @@
 pub mod Thresholds
 pub mod Largest
 pub mod Cheapest
+pub mod CoverEnds
+pub mod EqualRuns
 pub mod Grounds
 pub mod Tables
 pub mod Picks

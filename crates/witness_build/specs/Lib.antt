@@ -1,3 +1,6 @@
+pub mod CoverWalks
+pub mod Lacking
 pub mod Levels
 pub mod Nearest
+pub mod Starts
 pub mod Witnesses

@@ -52,7 +52,7 @@ pub(crate) fn first_numbers(
 }
 
 /// Adds so many numbers in turn, from the first one on.
-fn push_numbers(numbers: &mut Vec<u32>, first: u32, count: u32) -> Result<(), Memory>
+pub(crate) fn push_numbers(numbers: &mut Vec<u32>, first: u32, count: u32) -> Result<(), Memory>
     requires { first + count < 2 ^ 32 }
     ensures { OnOk result (numbers.new.items ≡ numbers.old.items ++ range_with_len first count) }
 {

@@ -67,7 +67,7 @@ pub(crate) fn witness_at(
 }
 
 /// The replacements of these ballots by the one that ranks the gainer alone.
-fn puts_for(alloc: Global, gainer: Cand, numbers: &[u32]) -> Result<Vec<Put>, Memory>
+pub(crate) fn puts_for(alloc: Global, gainer: Cand, numbers: &[u32]) -> Result<Vec<Put>, Memory>
     ensures { IfOk result (λ puts. pairs_of puts.items ≡ puts_of gainer numbers.now) }
 {
     let mut puts = Vec::with_capacity(alloc, numbers.len())?;

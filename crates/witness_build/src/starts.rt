@@ -1,20 +1,54 @@
 // The cheapest replacements of the root's pairs.
-ghost use Rattle.std.specs.Prelude.{◌≡◌, ◌↔◌, All, None, IfOk, IfSome, length};
+ghost use Rattle.std.specs.Prelude.{◌≡◌, ◌≢◌, ◌↔◌, All, None, IfOk, IfSome, length};
+ghost use Rattle.ballot_form.specs.declared.rule.Rule.TheVariants.{Irv};
 ghost use Rattle.goal_rows.specs.Goals.{IsDecidedByPairs, root_goals};
 ghost use Rattle.goal_rows.specs.Races.{IsRace, election_of};
 ghost use Rattle.witness_build.specs.Nearest.{IsNearestSoFar, is_closer as closer_than};
+ghost use Rattle.witness_build.specs.Starts.{IsStart, has_no_winner};
 ghost use Rattle.witness_build.specs.Witnesses.{IsMetBy, IsPair, IsStartWitness};
 
+use crate::covers::cover_witness;
 use crate::levels::{Level, level_of};
 use crate::pairs::{Witness, witness_at};
+use ballot_form::{Outcome, Rule};
 use goal_rows::ground;
 use goal_rows::parts::{Ground, Race};
 use mov_base::Memory;
 use std::alloc::Global;
 
+/// Where a search begins: where the contest is decided by pairs, the cheapest replacements of the first root pair that
+/// the fewest bring level, and where Condorcet's rule reports no winner, the shortest walk for a cover; none exactly
+/// where there is one candidate. The race has its own roots, under another rule than instant runoff.
+pub fn start_witness(alloc: Global, race: &Race<'_>) -> Result<Option<Witness>, Memory>
+    requires race { IsRace race.now }
+    requires own { race.now.roots ≡ root_goals race.now.rule race.now.roll.now.c race.now.reported }
+    requires rule { race.now.rule ≢ Irv }
+    ensures none { IfOk result (λ found. (found ≡ None) ↔ (race.now.roll.now.c ≡ 1)) }
+    ensures start { IfOk result (λ found. IfSome found (λ w. IsStart (election_of race.now) w.goal w.changes)) }
+    ensures met { IfOk result (λ found. IfSome found (λ w. IsMetBy (election_of race.now) w.goal w.changes)) }
+{
+    if race.roll.candidates() == 1 {
+        return Ok(None);
+    }
+    if is_for_covers(race) {
+        return Ok(Some(cover_witness(alloc, race)?));
+    }
+    nearest_witness(alloc, race)
+}
+
+/// Whether Condorcet's rule reports no winner.
+fn is_for_covers(race: &Race<'_>) -> bool
+    ensures { result ≡ has_no_winner race.now.rule race.now.reported }
+{
+    match (race.rule, &race.reported) {
+        (Rule::Condorcet, Outcome::NoWinner) => true,
+        _ => false,
+    }
+}
+
 /// The cheapest replacements of the first root pair that the fewest bring level; none exactly where there is one
 /// candidate. The race has its own roots, and they are pairs.
-pub fn start_witness(alloc: Global, race: &Race<'_>) -> Result<Option<Witness>, Memory>
+fn nearest_witness(alloc: Global, race: &Race<'_>) -> Result<Option<Witness>, Memory>
     requires race { IsRace race.now }
     requires own { race.now.roots ≡ root_goals race.now.rule race.now.roll.now.c race.now.reported }
     requires pairs { IsDecidedByPairs race.now.rule race.now.reported }

@@ -1,0 +1,3 @@
+pub mod DrawnLists
+pub mod MadeNames
+pub mod ValidBallots
