@@ -10,3 +10,4 @@ pub mod Pairs
 pub mod SeatGains
 pub mod LongerKeys
 pub mod Programs
+pub mod Cells

@@ -1,12 +1,13 @@
 -- The program of a node: rows over whole variables, each of which is to be at least 0. A class of ballots has a
 -- variable, how many of it are replaced, and under a suffix each arc has one, how many new ballots' signatures use it.
 -- The rows and limits of the node count these; further rows bound the classes, and make the arcs a flow.
-use Rattle.std.specs.Prelude.{ℕ, ◌+◌, ◌-◌, ◌==◌, ◌&&◌, not, Bool, false, List, [], ◌∷◌, ◌++◌, if◌then◌else◌, length, map, replicate, slice_index_or, unsigned_abs, ℤ, pos, ◌+ℤ◌, ◌-ℤ◌}
+use Rattle.std.specs.Prelude.{◌≡◌, ◌≤◌, ◌≤ℤ◌, All, ℕ, ◌+◌, ◌-◌, ◌==◌, ◌&&◌, not, Bool, false, List, [], ◌∷◌, ◌++◌, if◌then◌else◌, length, map, replicate, slice_index_or, unsigned_abs, ℤ, pos, ◌+ℤ◌, ◌-ℤ◌}
 use Rattle.std.specs.List.{flat_map, range_with_len, zip}
 use Rattle.irv_count.specs.Orders.{stands}
 use Rattle.row_program.specs.declared.Feature.{Feature}
 use Rattle.row_program.specs.declared.Feature.TheVariants.{From, Arc}
 use Rattle.row_program.specs.declared.Limit.{Limit}
+use Rattle.row_program.specs.Points.{cost_of, row_value}
 use Rattle.row_program.specs.declared.program.Row.{Row}
 use Rattle.row_program.specs.declared.program.Term.{Term}
 use Rattle.sig_graph.specs.Paths.{arcs_of}
@@ -145,3 +146,13 @@ flow_rows_of start =
 abbrev pub program_rows : Ground → List Limit → List Row
 program_rows start limits =
     goal_rows_of start ++ limit_rows_of start limits ++ class_rows_of start.classes ++ flow_rows_of start
+
+-- whole numbers, one a variable, over one denominator, at which each row of the node is at least 0
+pub record IsPointOf (start : Ground) (limits : List Limit) (whole : List ℕ) (den : ℕ) : Type 0 where
+  pub all_variables : length whole ≡ length (costs_of start.classes (arcs_under start.goal))
+  pub positive : 1 ≤ den
+  pub meets : All (λ row. pos 0 ≤ℤ row_value row whole den) (program_rows start limits)
+
+-- what such numbers cost: the sum of those of the classes
+abbrev pub point_cost_of : Ground → List ℕ → ℕ
+point_cost_of start whole = cost_of (costs_of start.classes (arcs_under start.goal)) whole
