@@ -128,6 +128,11 @@ cover_of e (Suffix suffix) =
 cover_of e (Pair g l) = None
 cover_of e (Cover x) = None
 
+-- the goals of a cover, or none
+abbrev pub kid_goals : Option (List Goal) → List Goal
+kid_goals None = []
+kid_goals (Some goals) = goals
+
 -- the last candidate of the suffix alone is one of the suffixes into which the root is split
 abbrev pub EndsInRoot : Election → List ℕ → Type 0
 EndsInRoot e suffix = (y : ℕ) × IsLast suffix y × Contains e.roots (Suffix (y ∷ []))

@@ -1,6 +1,6 @@
 -- A node is a goal with a list of limits on the replacements. Each row of the goal and each limit has a value before
 -- any replacement, and each replacement changes it by so much.
-use Rattle.std.specs.Prelude.{ℕ, ◌+◌, ◌^◌, ◌<◌, ◌≤◌, ◌==◌, List, [], ◌∷◌, ◌++◌, All, if◌then◌else◌, length, map, ℤ, pos, ◌-ℤ◌, ◌≤ℤ◌}
+use Rattle.std.specs.Prelude.{ℕ, ◌+◌, ◌^◌, ◌<◌, ◌≤◌, ◌==◌, List, [], ◌∷◌, ◌++◌, All, if◌then◌else◌, true, false, length, map, ℤ, pos, ◌-ℤ◌, ◌≤ℤ◌}
 use Rattle.mov_base.specs.Sums.{add_up, sum_z}
 use Rattle.ballot_form.specs.Alterations.{after}
 use Rattle.ballot_form.specs.declared.limits.TheConstants.{MOST_BALLOTS}
@@ -26,6 +26,19 @@ without_limits goal = record { goal = goal; limits = [] }
 -- a node with one limit more, at the end
 abbrev pub with_limit : Node → Limit → Node
 with_limit node limit = record { goal = node.goal; limits = node.limits ++ limit ∷ [] }
+
+-- the halves of a node by a feature: it is at most the value, or at least one more
+abbrev pub low_limit : Feature → ℕ → Limit
+low_limit feature value = record { feature = feature; at_most = true; value = value }
+
+abbrev pub high_limit : Feature → ℕ → Limit
+high_limit feature value = record { feature = feature; at_most = false; value = value + 1 }
+
+abbrev pub low_half : Node → Feature → ℕ → Node
+low_half node feature value = with_limit node (low_limit feature value)
+
+abbrev pub high_half : Node → Feature → ℕ → Node
+high_half node feature value = with_limit node (high_limit feature value)
 
 -- the feature belongs to the goal. A suffix has the keys of ballots under it, and the arcs between its places and from
 -- the start, 0; a cover has the keys; the root and the pairs have none
@@ -91,3 +104,7 @@ kept_limit e goal limit =
 -- the rows of the goal, and then the limits
 abbrev pub kept_of : Election → Node → List Kept
 kept_of e node = map (kept_row e.poll.ballots) (rows_of e node.goal) ++ map (kept_limit e node.goal) node.limits
+
+-- how many multipliers a node has: one for each row of the goal, and one for each limit
+abbrev pub number_count : Election → Node → ℕ
+number_count e node = length (rows_of e node.goal) + length node.limits

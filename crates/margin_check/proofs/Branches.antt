@@ -21,8 +21,7 @@ use Rattle.bound_tree.proofs.Shapes.{highest_kid, plain_Branch, plain_Split}
 use Rattle.cert_text.specs.CertText.{IsPrintable, LineFits}
 use Rattle.cert_text.specs.declared.cert.Cert.{Cert}
 use Rattle.goal_rows.specs.Elections.{Election, Node}
-use Rattle.goal_rows.specs.Nodes.{AreLimits, IsFeatureOf, Meets, counted_for, limit_value, swaps_of, with_limit}
-use Rattle.margin_check.specs.Visits.{high_limit, low_limit}
+use Rattle.goal_rows.specs.Nodes.{AreLimits, IsFeatureOf, Meets, counted_for, high_limit, limit_value, low_limit, swaps_of, with_limit}
 use Rattle.margin_check.specs.Walks.{FitsBelow}
 
 -- ---- what meets a node meets one of its halves

@@ -16,14 +16,14 @@ use Rattle.bound_tree.specs.Plain.{Plain, Kids, Split, Branch, Cut, kids_of, pla
 use Rattle.bound_tree.specs.Plain as tree
 use Rattle.bound_tree.proofs.Shapes.{plain_Split, plain_Branch, plain_Cut, size_more}
 use Rattle.goal_rows.specs.Elections.{Election, Node}
-use Rattle.goal_rows.specs.Goals.{cover_of}
-use Rattle.goal_rows.specs.Nodes.{AreLimits, IsFeatureOf, node_of, with_limit, without_limits}
+use Rattle.goal_rows.specs.Goals.{cover_of, kid_goals}
+use Rattle.goal_rows.specs.Nodes.{AreLimits, IsFeatureOf, high_limit, low_limit, node_of, number_count, with_limit, without_limits}
 use Rattle.goal_rows.specs.declared.goals.Goal.{Goal}
 use Rattle.goal_rows.specs.declared.parts.Ground.{Ground}
 use Rattle.margin_check.proofs.Branches.{before, behind}
-use Rattle.margin_check.specs.Proving.{IsShaped, number_count}
+use Rattle.margin_check.specs.Proving.{IsShaped}
 use Rattle.margin_check.specs.Verdicts.{IsFirstWithout}
-use Rattle.margin_check.specs.Visits.{Visit, high_limit, kid_goals, low_limit, visit_of, visits, visits_among}
+use Rattle.margin_check.specs.Visits.{Visit, visit_of, visits, visits_among}
 use Rattle.margin_check.specs.Walks.{EndsAt, Gives, IsKnown}
 use Rattle.margin_check.specs.declared.walk.Asked.{Asked}
 use Rattle.margin_check.specs.declared.walk.Asked.TheVariants.{Shape, Cuts}

@@ -7,12 +7,12 @@ use Rattle.bound_tree.specs.Nodes.{nodes_of, nodes_of_all}
 use Rattle.bound_tree.specs.Plain.{Plain, Kids, Split, Branch, Cut}
 use Rattle.bound_tree.specs.Plain as tree
 use Rattle.goal_rows.specs.Elections.{Election, Node}
-use Rattle.goal_rows.specs.Goals.{cover_of}
-use Rattle.goal_rows.specs.Nodes.{with_limit, without_limits}
+use Rattle.goal_rows.specs.Goals.{cover_of, kid_goals}
+use Rattle.goal_rows.specs.Nodes.{high_limit, low_limit, with_limit, without_limits}
 use Rattle.goal_rows.specs.declared.goals.Goal.{Goal}
 use Rattle.margin_check.specs.Proving.{IsShaped}
 use Rattle.margin_check.specs.Verdicts.{IsFirstWithout}
-use Rattle.margin_check.specs.Visits.{Visit, high_limit, kid_goals, low_limit, visits, visits_among}
+use Rattle.margin_check.specs.Visits.{Visit, visits, visits_among}
 use Rattle.margin_check.proofs.Trees.{covered}
 
 -- the same nodes as far as all before have the property

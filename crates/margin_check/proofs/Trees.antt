@@ -7,14 +7,14 @@ use Rattle.bound_tree.specs.Lines.{kid_count}
 use Rattle.bound_tree.specs.Plain.{Plain, Kids, Split, Branch, Cut}
 use Rattle.bound_tree.specs.Plain as tree
 use Rattle.goal_rows.specs.Elections.{Election, Node}
-use Rattle.goal_rows.specs.Goals.{AreRoots, Holds, IsComplete, cover_of}
-use Rattle.goal_rows.specs.Nodes.{Meets, limit_value, swaps_of, with_limit, without_limits}
+use Rattle.goal_rows.specs.Goals.{AreRoots, Holds, IsComplete, cover_of, kid_goals}
+use Rattle.goal_rows.specs.Nodes.{Meets, high_limit, limit_value, low_limit, swaps_of, with_limit, without_limits}
 use Rattle.goal_rows.specs.declared.goals.Goal.{Goal}
 use Rattle.goal_rows.specs.declared.goals.Goal.TheVariants.{Root}
 use Rattle.goal_rows.proofs.Ways.{holds_on_the_way, only_way}
 use Rattle.dual_bound.proofs.Sound.{sound}
 use Rattle.margin_check.specs.Proving.{IsProof, IsShaped, Passes, ProveAll, Proves}
-use Rattle.margin_check.specs.Visits.{Visit, high_limit, kid_goals, low_limit, visit_of, visits, visits_among}
+use Rattle.margin_check.specs.Visits.{Visit, visit_of, visits, visits_among}
 use Rattle.margin_check.proofs.Branches.{before, behind, halves_met}
 use Rattle.margin_check.proofs.Ways.{IsBetween, next_step}
 

@@ -1,18 +1,14 @@
 -- What a tree of bounds proves: that few replacements can't meet its topmost node.
-use Rattle.std.specs.Prelude.{◌≡◌, ℕ, ◌+◌, List, [], ◌∷◌, Some, length, option_map, All}
+use Rattle.std.specs.Prelude.{◌≡◌, ℕ, List, [], ◌∷◌, Some, length, option_map, All}
 use Rattle.bound_tree.specs.Lines.{kid_count}
 use Rattle.bound_tree.specs.Plain.{Plain, Kids, Split, Branch, Cut}
 use Rattle.bound_tree.specs.Plain as trees
 use Rattle.goal_rows.specs.Elections.{Election, Node}
-use Rattle.goal_rows.specs.Goals.{cover_of, rows_of}
-use Rattle.goal_rows.specs.Nodes.{IsFeatureOf, without_limits}
+use Rattle.goal_rows.specs.Goals.{cover_of}
+use Rattle.goal_rows.specs.Nodes.{IsFeatureOf, high_half, low_half, number_count, without_limits}
 use Rattle.goal_rows.specs.declared.goals.Goal.{Goal}
 use Rattle.dual_bound.specs.CutTest.{Cuts}
-use Rattle.margin_check.specs.Visits.{visits, low_half, high_half}
-
--- how many numbers a cut has: one for each row of the goal, and one for each limit
-abbrev pub number_count : Election → Node → ℕ
-number_count e node = length (rows_of e node.goal) + length node.limits
+use Rattle.margin_check.specs.Visits.{visits}
 
 -- a split stands at a goal with a cover, without limits, and has as many kids as the cover has goals; a branch names a
 -- feature of its goal; a cut has a number for each row and each limit

@@ -1,12 +1,10 @@
 -- The nodes of a tree in preorder, each with what it is to rule out.
-use Rattle.std.specs.Prelude.{ℕ, ◌+◌, List, [], ◌∷◌, ◌++◌, Option, Some, None, true, false}
-use Rattle.row_program.specs.declared.Feature.{Feature}
-use Rattle.row_program.specs.declared.Limit.{Limit}
+use Rattle.std.specs.Prelude.{List, [], ◌∷◌, ◌++◌}
 use Rattle.bound_tree.specs.Plain.{Plain, Kids, Split, Branch, Cut}
 use Rattle.bound_tree.specs.Plain as trees
 use Rattle.goal_rows.specs.Elections.{Election, Node}
-use Rattle.goal_rows.specs.Goals.{cover_of}
-use Rattle.goal_rows.specs.Nodes.{with_limit, without_limits}
+use Rattle.goal_rows.specs.Goals.{cover_of, kid_goals}
+use Rattle.goal_rows.specs.Nodes.{high_half, low_half, without_limits}
 use Rattle.goal_rows.specs.declared.goals.Goal.{Goal}
 
 -- a node, and the tree that is to rule it out
@@ -16,24 +14,6 @@ pub record Visit : Type 0 where
 
 abbrev pub visit_of : Node → Plain → Visit
 visit_of node tree = record { node = node; tree = tree }
-
--- the halves of a branch: the feature is at most the value, or at least one more
-abbrev pub low_limit : Feature → ℕ → Limit
-low_limit feature value = record { feature = feature; at_most = true; value = value }
-
-abbrev pub high_limit : Feature → ℕ → Limit
-high_limit feature value = record { feature = feature; at_most = false; value = value + 1 }
-
-abbrev pub low_half : Node → Feature → ℕ → Node
-low_half node feature value = with_limit node (low_limit feature value)
-
-abbrev pub high_half : Node → Feature → ℕ → Node
-high_half node feature value = with_limit node (high_limit feature value)
-
--- the goals of a split's kids: those of the cover
-abbrev pub kid_goals : Option (List Goal) → List Goal
-kid_goals None = []
-kid_goals (Some goals) = goals
 
 -- the nodes in preorder: a split's kids have the goals of the cover in order, without limits, and a branch's halves
 -- have its goal and its limits with one more at the end

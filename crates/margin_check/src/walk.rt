@@ -5,12 +5,12 @@ ghost use Rattle.bound_tree.specs.Plain.{kids_of, plain_of};
 ghost use Rattle.goal_rows.specs.Elections.{Election};
 ghost use Rattle.goal_rows.specs.Goals.{cover_of};
 ghost use Rattle.goal_rows.specs.LongerKeys.{goals_of};
-ghost use Rattle.goal_rows.specs.Nodes.{AreLimits, IsFeatureOf, node_of, with_limit};
+ghost use Rattle.goal_rows.specs.Nodes.{AreLimits, IsFeatureOf, high_half, low_half, node_of, number_count, with_limit};
 ghost use Rattle.goal_rows.specs.Races.{IsGroundIn, IsRace, election_of};
 ghost use Rattle.goal_rows.specs.declared.goals.Goal.TheVariants.{Cover, Suffix};
 ghost use Rattle.dual_bound.specs.CutTest.{Cuts};
-ghost use Rattle.margin_check.specs.Proving.{IsShaped, number_count};
-ghost use Rattle.margin_check.specs.Visits.{high_half, low_half, visit_of, visits, visits_among};
+ghost use Rattle.margin_check.specs.Proving.{IsShaped};
+ghost use Rattle.margin_check.specs.Visits.{visit_of, visits, visits_among};
 ghost use Rattle.margin_check.specs.Walks.{EndsAt, FitsBelow, Gives, IsKnown};
 
 use bound_tree::{Multipliers, Tree};

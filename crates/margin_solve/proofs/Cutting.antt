@@ -10,13 +10,13 @@ use Rattle.ballot_form.specs.Ballots.{IsValidBallot, Poll}
 use Rattle.bound_tree.specs.Growth.{cuts_of}
 use Rattle.goal_rows.specs.Elections.{Election}
 use Rattle.goal_rows.specs.Goals.{IsElection, IsRootOf, gainer_points, loser_points, pair_weight}
-use Rattle.goal_rows.specs.Nodes.{Kept, kept_row, without_limits}
+use Rattle.goal_rows.specs.Nodes.{Kept, kept_row, number_count, without_limits}
 use Rattle.goal_rows.specs.Pairs.{gain_of}
 use Rattle.goal_rows.specs.declared.goals.Goal.{Goal}
 use Rattle.goal_rows.specs.declared.goals.Goal.TheVariants.{Root, Pair}
 use Rattle.goal_rows.proofs.PairPoints.{pair_points}
 use Rattle.dual_bound.specs.CutTest.{AreGains, Cuts, CutsKept, IsGain}
-use Rattle.margin_check.specs.Proving.{ProveAll, Proves, number_count}
+use Rattle.margin_check.specs.Proving.{ProveAll, Proves}
 use Rattle.margin_solve.specs.Certificates.{tree_for}
 use Rattle.witness_build.specs.Witnesses.{IsPair, IsStartWitness, PairReaches, pair_deficit, pair_gains}
 

@@ -3,9 +3,9 @@ use Rattle.std.proofs.Common.{rules, [], ◌++◌, All, ◌≡◌, ◌<◌, ◌+
 use Rattle.bound_tree.specs.Plain.{plain_of}
 use Rattle.bound_tree.proofs.Shapes.{size_Branch, size_Split}
 use Rattle.goal_rows.specs.LongerKeys.{goals_of}
-use Rattle.goal_rows.specs.Nodes.{AreLimits, node_of, with_limit}
+use Rattle.goal_rows.specs.Nodes.{AreLimits, high_half, high_limit, low_half, low_limit, node_of, with_limit}
 use Rattle.goal_rows.specs.Races.{IsGroundIn, election_of}
-use Rattle.margin_check.specs.Visits.{high_half, high_limit, low_half, low_limit, visits}
+use Rattle.margin_check.specs.Visits.{visits}
 use Rattle.margin_check.specs.Walks.{EndsAt, FitsBelow, Gives, IsKnown}
 use Rattle.margin_check.specs.declared.walk.End.TheVariants.{Stopped, Through}
 use Rattle.margin_check.proofs.Branches.{before, behind, fits_halves, fits_kids, half_limits, kid_below, lent_branch}
