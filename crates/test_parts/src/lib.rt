@@ -1,5 +1,5 @@
-//! Tests of the crates below the texts and the runs: each public call once on its happy path, worked cases, and
-//! tables of answers that programs outside of the project gave. It has no code of its own.
+//! Tests of the crates below the goals: each public call once on its happy path, worked cases, and tables of answers
+//! that programs outside of the project gave. It has no code of its own.
 #![tactic(auto)]
 
 #[cfg(test)]
@@ -11,13 +11,9 @@ mod base;
 #[cfg(test)]
 mod classes;
 #[cfg(test)]
-mod cuts;
-#[cfg(test)]
 mod edge;
 #[cfg(test)]
 mod exact_num_tests;
-#[cfg(test)]
-mod goals;
 #[cfg(test)]
 mod lex_dual_tests;
 #[cfg(test)]

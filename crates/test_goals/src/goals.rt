@@ -8,6 +8,7 @@ use goal_rows::{
     Goal, MOST_ROWS, cover, ground, is_complete, kid_count, race, reported, row_count, rows_hold,
 };
 use std::alloc::Global;
+use std::process::Abort;
 use std::test::Fail;
 
 #[test]
@@ -100,21 +101,54 @@ fn suffix(alloc: Global, letters: &str) -> Result<Goal, Fail> {
     Ok(Goal::Suffix(Ranking::from_slice(alloc, row.as_slice())?))
 }
 
+/// How many rows a goal has, how many kids, and its ground where it is complete.
+fn goal_text(alloc: Global, race: &Race<'_>, goal: &Goal) -> Result<String, Fail>
+    requires { IsRace race.now }
+{
+    let (rows, kids) = (row_count(race, goal), kid_count(race, goal));
+    if !is_complete(race, goal) {
+        return Ok(format!(in alloc; "{rows} {kids:?}")?);
+    }
+    let text = complete_text(alloc, race, goal)?;
+    Ok(format!(in alloc; "{rows} {kids:?} {}", text.as_str())?)
+}
+
+/// A line of a table: a suffix, and its text.
+fn is_suffix(rt: &impl Abort, alloc: Global, race: &Race<'_>, line: &str) -> Result<(), Fail>
+    requires { IsRace race.now }
+{
+    let (letters, want) = line.split_once(';').ok_or("no text")?;
+    let goal = suffix(alloc, letters)?;
+    let text = goal_text(alloc, race, &goal)?;
+    assert_eq!(rt; text.as_str(), want.trim());
+    Ok(())
+}
+
+/// Whether the rows of a goal hold on the ballots that a text writes.
+fn holds_on(alloc: Global, race: &Race<'_>, goal: &Goal, ballots: &str) -> Result<bool, Fail> {
+    let after = roll_of(alloc, ballots)?;
+    Ok(holds(race, &after, goal).ok_or("not complete")?)
+}
+
+/// Suffixes of a runoff: of all candidates, in the order in which they go out with one other winner, and with the
+/// reported one; of one candidate, who can't win first.
+const SUFFIXES: &str = "\
+CBA; 3 None [2, 3, -1] 12 0 4:5 2:4 3:2 0:1
+ACB; 3 None
+A; 0 Some(2)
+";
+
 #[test]
 fn suffixes_of_a_runoff(rt: HostRuntime) -> Result<(), Fail> {
     let roll = roll_of(rt.alloc(), "3: 5 A, 4 BC, 2 CB, 1")?;
     let race = race(rt.alloc(), Rule::Irv, &roll)?;
+    for line in SUFFIXES.lines() {
+        is_suffix(&rt, rt.alloc(), &race, line)?;
+    }
     let goal = suffix(rt.alloc(), "CBA")?;
-    let text = complete_text(rt.alloc(), &race, &goal)?;
-    assert_eq!(rt; text.as_str(), "[2, 3, -1] 12 0 4:5 2:4 3:2 0:1");
-    assert_eq!(rt; holds(&race, &roll, &goal), Some(false));
-    let after = roll_of(rt.alloc(), "3: 6 A, 3 BC, 2 CB, 1")?;
-    assert_eq!(rt; holds(&race, &after, &goal), Some(true));
-    assert!(rt; !is_complete(&race, &suffix(rt.alloc(), "ACB")?));
-    assert_eq!(rt; kid_count(&race, &goal), None);
-    let last = suffix(rt.alloc(), "A")?;
-    assert!(rt; !is_complete(&race, &last));
-    assert_eq!(rt; kid_count(&race, &last), Some(2));
+    for (ballots, held) in [("3: 5 A, 4 BC, 2 CB, 1", false), ("3: 6 A, 3 BC, 2 CB, 1", true)] {
+        assert_eq!(rt; holds_on(rt.alloc(), &race, &goal, ballots)?, held);
+    }
     Ok(())
 }
 
@@ -122,22 +156,12 @@ fn suffixes_of_a_runoff(rt: HostRuntime) -> Result<(), Fail> {
 fn covers_of_a_cycle(rt: HostRuntime) -> Result<(), Fail> {
     let roll = roll_of(rt.alloc(), "3: 1 ABC, 1 BCA, 1 CAB")?;
     let race = race(rt.alloc(), Rule::Condorcet, &roll)?;
-    assert!(rt;
-        matches!(
-            race.roots.as_slice(),
-            [Goal::Cover(0), Goal::Cover(1), Goal::Cover(2)]
-        )
-    );
     let goal = Goal::Cover(0);
-    let text = complete_text(rt.alloc(), &race, &goal)?;
-    assert_eq!(rt; text.as_str(), "[1, -1] 3 1 1:1 7:1 5:1");
-    assert_eq!(rt; holds(&race, &roll, &goal), Some(false));
-    let after = roll_of(rt.alloc(), "3: 1 ABC, 1 A, 1 CAB")?;
-    assert_eq!(rt; holds(&race, &after, &goal), Some(true));
-    assert_eq!(rt;
-        (row_count(&race, &goal), kid_count(&race, &goal)),
-        (2, None)
-    );
+    let text = goal_text(rt.alloc(), &race, &goal)?;
+    assert_eq!(rt; text.as_str(), "2 None [1, -1] 3 1 1:1 7:1 5:1");
+    for (ballots, held) in [("3: 1 ABC, 1 BCA, 1 CAB", false), ("3: 1 ABC, 1 A, 1 CAB", true)] {
+        assert_eq!(rt; holds_on(rt.alloc(), &race, &goal, ballots)?, held);
+    }
     Ok(())
 }
 
