@@ -1,4 +1,4 @@
--- A branch of a tree: what its halves have, and what meets one of them.
+-- A branch of a tree: what its halves have.
 use Rattle.std.proofs.Common.{ℕ, zero, suc, List, [], ◌∷◌, ◌++◌, All, Bool, true, false, IsTrue, ◌≡◌, ◌≢◌, ◌<◌, ◌≤◌, ◌+◌, ◌*◌, ◌/◌, ◌∙◌, ◌⊎◌, ◌↔◌, length, map, get_or, max, refl, ap, sym, subst, inl, inr, arith}
 use Rattle.std.specs.Prelude.{◌^◌, ◌==◌, pos, ◌-ℤ◌, ◌≤ℤ◌}
 use Rattle.std.proofs.lemmas.Bool.{cases_lt}
@@ -6,7 +6,6 @@ use Rattle.std.proofs.lemmas.Int.{ints}
 use Rattle.std.proofs.lemmas.List.{length-append}
 use Rattle.std.proofs.lemmas.List.Elements.{All-append, All-cons, All-head, All-nil, All-tail}
 use Rattle.ballot_form.specs.declared.limits.TheConstants.{MOST_BALLOTS}
-use Rattle.mov_base.specs.Sums.{add_up}
 use Rattle.row_program.specs.declared.Feature.{Feature}
 use Rattle.row_program.specs.declared.Feature.TheVariants.{From, Arc}
 use Rattle.row_program.specs.declared.Limit.{Limit}
@@ -20,26 +19,7 @@ use Rattle.bound_tree.specs.declared.tree.Tree.TheVariants as program
 use Rattle.bound_tree.proofs.Shapes.{highest_kid, plain_Branch, plain_Split}
 use Rattle.cert_text.specs.CertText.{IsPrintable, LineFits}
 use Rattle.cert_text.specs.declared.cert.Cert.{Cert}
-use Rattle.goal_rows.specs.Elections.{Election, Node}
-use Rattle.goal_rows.specs.Nodes.{AreLimits, IsFeatureOf, Meets, counted_for, high_limit, limit_value, low_limit, swaps_of, with_limit}
 use Rattle.margin_check.specs.Walks.{FitsBelow}
-
--- ---- what meets a node meets one of its halves
-
-meets_more : (e : Election) (node : Node) (limit : Limit) (changes : List (ℕ × List ℕ)) → Meets e node changes → pos 0 ≤ℤ limit_value e node.goal (swaps_of e changes) limit
-    → Meets e (with_limit node limit) changes
-meets_more e node limit changes meets kept =
-    let P : Limit → Type 0 = λ limit. pos 0 ≤ℤ limit_value e node.goal (swaps_of e changes) limit in
-    record { holds = meets.holds; kept = All-append P node.limits (limit ∷ []) meets.kept (All-cons P limit [] kept (All-nil P)) }
-
-pub halves_met : (e : Election) (node : Node) (changes : List (ℕ × List ℕ)) (f : Feature) (v : ℕ) → Meets e node changes
-    → Meets e (with_limit node (low_limit f v)) changes ⊎ Meets e (with_limit node (high_limit f v)) changes
-halves_met e node changes f v meets =
-    let count = add_up (counted_for e node.goal f) (swaps_of e changes) in
-    elim (cases_lt v count) [
-      | inl above ↦ inr (meets_more e node (high_limit f v) changes meets (omega (arith, ints, above)))
-      | inr below ↦ inl (meets_more e node (low_limit f v) changes meets (omega (arith, ints, below)))
-    ]
 
 -- ---- the trees below a node
 
@@ -106,16 +86,6 @@ fits_halves limits tree f v low high is fits = by f (subst (λ t. FitsBelow limi
           few = omega (arith, here.depth, some_height (plain_of low));
           small = omega (arith, small);
         }
-
--- the limits of a half
-pub half_limits : (e : Election) (node : Node) (limit : Limit) → AreLimits e node → length node.limits + 1 ≤ MOST_LIMITS → limit.value ≤ MOST_BALLOTS → IsFeatureOf e node.goal limit.feature
-    → AreLimits e (with_limit node limit)
-half_limits e node limit are few small feature = record {
-  few = omega (arith, few, length-append node.limits (limit ∷ []));
-  small = All-append (λ limit. limit.value ≤ MOST_BALLOTS) node.limits (limit ∷ []) are.small (All-cons (λ limit. limit.value ≤ MOST_BALLOTS) limit [] small (All-nil (λ limit. limit.value ≤ MOST_BALLOTS)));
-  features = All-append (λ limit. IsFeatureOf e node.goal limit.feature) node.limits (limit ∷ []) are.features
-      (All-cons (λ limit. IsFeatureOf e node.goal limit.feature) limit [] feature (All-nil (λ limit. IsFeatureOf e node.goal limit.feature)));
-}
 
 -- a whole tree that can be printed fits below the root
 pub printable_fits : (cert : Cert) (tree : Plain) → IsPrintable cert → tree ≡ cert.tree → FitsBelow 0 tree

@@ -22,9 +22,10 @@ use Rattle.cert_text.specs.declared.cert.Claim.TheVariants.{Margin, Fixed, Bound
 use Rattle.cert_text.specs.declared.cert.GoalText.{GoalText}
 use Rattle.ballot_form.specs.Ballots.{Poll}
 use Rattle.margin_check.specs.Meanings.{ClaimIsTrue, SaysOf, TurnsBy}
-use Rattle.margin_check.specs.Proving.{Proves}
+use Rattle.tree_proofs.specs.Proving.{Proves}
 use Rattle.margin_check.specs.Validity.{ClaimHolds, HasOrder, IsMet, IsValidCert, election_by, level_of}
-use Rattle.margin_check.proofs.Trees.{refuted, to_proves}
+use Rattle.margin_check.proofs.Trees.{to_proves}
+use Rattle.tree_proofs.proofs.Refuted.{refuted}
 
 many_puts : (c k : ℕ) (claim : Claim) (text : Option GoalText) (puts : List Put) → claim ≡ Margin k → BodyFits c claim text puts → length (pairs_of puts) ≡ k
 many_puts c k claim None puts is body = absurd (subst (λ x. BodyFits c x None puts) is body)

@@ -16,7 +16,7 @@ use Rattle.goal_rows.specs.declared.goals.Goal.{Goal}
 use Rattle.goal_rows.specs.declared.goals.Goal.TheVariants.{Root, Pair}
 use Rattle.goal_rows.proofs.PairPoints.{pair_points}
 use Rattle.dual_bound.specs.CutTest.{AreGains, Cuts, CutsKept, IsGain}
-use Rattle.margin_check.specs.Proving.{ProveAll, Proves}
+use Rattle.tree_proofs.specs.Proving.{ProveAll, Proves}
 use Rattle.margin_solve.specs.Certificates.{tree_for}
 use Rattle.witness_build.specs.Witnesses.{IsPair, IsStartWitness, PairReaches, pair_deficit, pair_gains}
 

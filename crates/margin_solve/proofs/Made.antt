@@ -23,7 +23,7 @@ use Rattle.goal_rows.specs.Races.{IsRace, election_of}
 use Rattle.goal_rows.specs.declared.goals.Goal.{Goal}
 use Rattle.goal_rows.specs.declared.goals.Goal.TheVariants as goals
 use Rattle.goal_rows.specs.declared.parts.Race.{Race}
-use Rattle.margin_check.specs.Proving.{Proves}
+use Rattle.tree_proofs.specs.Proving.{Proves}
 use Rattle.margin_check.specs.Validity.{ClaimHolds, HasOrder, IsValidCert, election_by, level_of, named_goal}
 use Rattle.margin_check.proofs.Judging.{same_election}
 use Rattle.margin_check.proofs.Meaning.{claim_is_true}

@@ -8,7 +8,8 @@ use Rattle.goal_rows.specs.Races.{IsGroundIn, election_of}
 use Rattle.margin_check.specs.Visits.{visits}
 use Rattle.margin_check.specs.Walks.{EndsAt, FitsBelow, Gives, IsKnown}
 use Rattle.margin_check.specs.declared.walk.End.TheVariants.{Stopped, Through}
-use Rattle.margin_check.proofs.Branches.{before, behind, fits_halves, fits_kids, half_limits, kid_below, lent_branch}
+use Rattle.margin_check.proofs.Branches.{before, behind, fits_halves, fits_kids, kid_below, lent_branch}
+use Rattle.tree_proofs.proofs.Halves.{half_limits}
 use Rattle.margin_check.proofs.Nodes.{as_many_kids, branch_feature, given_for, has_cover, if_ok, kid_few, kid_fits, kid_known, kid_node, kid_smaller, kid_stops, kid_through, kids_from, known_below, known_for, no_limits, none_behind, over_branch, over_split, rest_of, split_free, stopped_in, through_both, visits_few, walk_over_rest}
 use Rattle.margin_check.proofs.Ways.{goal_at, goals_long, grounds_in, some_grounds}
 use Rattle.margin_check.proofs.walk.+walk.Goals as goal
