@@ -6,7 +6,3 @@
 //! so what a node is split into has no lower ceiling than the number to which the node was cut. The crate stands on the
 //! programs of `goal_rows`, the cut test of `dual_bound` and the answers of the exact method.
 #![tactic(auto)]
-
-mod laws;
-
-pub use laws::{a_cut_is_at_most_the_ceiling, solved_multipliers_cut_up_to_the_ceiling};

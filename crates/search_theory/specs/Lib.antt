@@ -1,0 +1,6 @@
+pub mod Spots
+pub mod Branchings
+pub mod Trees
+pub mod Ends
+pub mod Leaves
+pub mod Laws
