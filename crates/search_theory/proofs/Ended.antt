@@ -8,7 +8,7 @@ use Rattle.bound_tree.specs.Nodes.{cut_count, size, size_all}
 use Rattle.bound_tree.specs.Plain.{Cut, Plain}
 use Rattle.bound_tree.specs.declared.bound.TheConstants.{MOST_DEPTH}
 use Rattle.goal_rows.specs.Elections.{Election, Node}
-use Rattle.goal_rows.specs.Nodes.{number_count, without_limits}
+use Rattle.goal_rows.specs.Nodes.{IsFeatureOf, without_limits}
 use Rattle.goal_rows.specs.declared.goals.Goal.TheVariants.{Root}
 use Rattle.dual_bound.specs.CutTest.{IsBound}
 use Rattle.node_bounds.specs.Ceilings.{IsCeiling, node_cost}
@@ -119,7 +119,7 @@ point_cost : (p : Problem) (laws : AreLaws p) (h : Hung) (x : Leaf) (q : Values)
 point_cost p laws h x q held is whole few =
     let fact = subst (λ o. IsKept p.election x.node o) is held.own.point in
     let ceiling = laws.whole x.node q fact.3 whole in
-    let limits = limits_of p laws x.node held.own.reached held.own.ranges few in
+    let limits = limits_of p.election x.node held.own.ranges few in
     let up = laws.below x.node x.bound (node_cost p.election x.node q.whole) held.own.reached limits (x.multipliers, held.own.count, held.own.bound) ceiling in
     elim held.tight.1 [
       | inl here ↦
@@ -193,16 +193,16 @@ end_depth p tree x goes room deep =
 
 -- ---- how the first leaf may grow
 
-pub may_branch_at_point : (p : Problem) (x : Leaf) (q : Values) (b : Branching) → IsLeaf p x → x.point ≡ Some q → (IsWhole q → ⊥) → IsFloor p.election x.node q b →
-    MayGrow p.election (ByBranch b) x.node
-may_branch_at_point p x q b leaf is part floor =
+pub may_branch_at_point : (p : Problem) (x : Leaf) (q : Values) (b : Branching) → IsLeaf p x → IsFeatureOf p.election x.node.goal b.feature → x.point ≡ Some q →
+    (IsWhole q → ⊥) → IsFloor p.election x.node q b → MayGrow p.election (ByBranch b) x.node
+may_branch_at_point p x q b leaf feature is part floor =
     let fact = subst (λ o. IsKept p.election x.node o) is leaf.point in
-    (fact.0, inl (fact.2, q, fact.3, part, floor))
+    (fact.0, feature, inl (fact.2, q, fact.3, part, floor))
 
-pub may_branch_in_middle : (p : Problem) (laws : AreLaws p) (tree : Plain) (x : Leaf) (b : Branching) → Goes p tree x → x.point ≡ None →
+pub may_branch_in_middle : (p : Problem) (laws : AreLaws p) (tree : Plain) (x : Leaf) (b : Branching) → Goes p tree x → IsFeatureOf p.election x.node.goal b.feature → x.point ≡ None →
     has_cover p.election x.node.goal ≡ false → IsMiddle p.election x.node b → MayGrow p.election (ByBranch b) x.node
-may_branch_in_middle p laws tree x b goes none complete middle =
-    (complete, inr (no_point p laws goes.on.first x goes.held goes.on.within none complete goes.no_pair, middle))
+may_branch_in_middle p laws tree x b goes feature none complete middle =
+    (complete, feature, inr (no_point p laws goes.on.first x goes.held goes.on.within none complete goes.no_pair, middle))
 
 -- ---- sizes and the measure
 

@@ -2,3 +2,4 @@ pub mod Growing
 pub mod Turns
 pub mod Proven
 pub mod Ended
+pub mod Facts

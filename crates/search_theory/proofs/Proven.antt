@@ -74,7 +74,7 @@ module _ (p : Problem) (laws : AreLaws p) (low t : ℕ) where
     proves_below (Branch f v lower higher) spot so reached cuts =
         let lows = hung_of p.election lower (below spot (low_half spot.node f v)) in
         let highs = hung_of p.election higher (below spot (high_half spot.node f v)) in (
-          laws.branches spot.node (record { feature = f; value = v }) reached so.0.1,
+          so.0.1,
           proves_below lower (below spot (low_half spot.node f v)) so.1 reached (each-left (CutsHere p.election t) lows highs cuts),
           proves_below higher (below spot (high_half spot.node f v)) so.2 reached (each-right (CutsHere p.election t) lows highs cuts),
         )

@@ -86,12 +86,11 @@ lowest-put_at e (suc i) (y ∷ ys) x kids first all = omega (arith, first.0, low
 -- ---- new leaves
 
 -- a node of the tree has limits as the cut test wants them
-pub limits_of : (p : Problem) (laws : AreLaws p) (node : Node) → IsReached p.election node.goal → HasRanges p.election node →
-    length node.limits ≤ MOST_LIMITS → AreLimits p.election node
-limits_of p laws node reached ranges few = record {
+pub limits_of : (e : Election) (node : Node) → HasRanges e node → length node.limits ≤ MOST_LIMITS → AreLimits e node
+limits_of e node ranges few = record {
   few = few;
   small = ranges.small;
-  features = λ k d less. laws.variables node (slice_index_or node.limits k d).feature reached (ranges.on_variables k d less);
+  features = ranges.features;
 }
 
 -- the spot of a leaf below these nodes
@@ -111,7 +110,7 @@ module _ (p : Problem) (laws : AreLaws p) (parent : Leaf) (above : List Node) (a
   below_parent : (k : Node) (x : Leaf) → KidIsFine k → IsMade p parent k x → parent.bound ≤ x.bound
   below_parent k x fine made = elim made.tight [
     | inl solid ↦
-        let limits = limits_of p laws x.node made.own.reached made.own.ranges (few_limits k x fine made) in
+        let limits = limits_of p.election x.node made.own.ranges (few_limits k x fine made) in
         let cut = subst (λ z. IsCutBySome p.election parent.bound z) (sym made.is) fine.0 in
         omega (arith, laws.below x.node parent.bound solid.1 made.own.reached limits cut solid.2, solid.3)
     | inr other ↦ omega (arith, other.1)
@@ -197,7 +196,7 @@ needed_growth p t parent above ByCover kids may plain anchored made =
     (((may, plain may), anchored), needed_kids p t parent (cover_list p.election parent.node.goal) kids (spot_of parent above) made)
 needed_growth p t parent above (ByBranch b) [] may plain anchored made = absurd made
 needed_growth p t parent above (ByBranch b) (x ∷ []) may plain anchored made = absurd made.1
-needed_growth p t parent above (ByBranch b) (x ∷ y ∷ zs) may plain anchored made = ((may.0, may.1, anchored), tt, tt)
+needed_growth p t parent above (ByBranch b) (x ∷ y ∷ zs) may plain anchored made = ((may.0, may.1, may.2, anchored), tt, tt)
 
 pub nothing_new : (cut : List ℕ → Spot → Type 0) (hs : List Hung) → Hanging cut (λ ms spot. Unit {0}) hs
 nothing_new cut [] = tt
@@ -208,7 +207,7 @@ pub needed-more : (e : Election) (t u : ℕ) (tree : Plain) → t ≤ u → IsNe
 needed-more e t u tree le needed =
     Everywhere-map e (needed_words e t) (needed_words e u)
     (λ spot h. (h.0, anchor-map e spot (IsInReach e t) (IsInReach e u) (λ v g. (omega (arith, g.0), g.1)) h.1))
-    (λ f v spot h. (h.0, h.1, anchor-map e spot (IsInReach e t) (IsInReach e u) (λ v g. (omega (arith, g.0), g.1)) h.2))
+    (λ f v spot h. (h.0, h.1, h.2, anchor-map e spot (IsInReach e t) (IsInReach e u) (λ v g. (omega (arith, g.0), g.1)) h.3))
     tree root_spot needed (nothing_new (λ ms spot. Unit {0}) (cuts_in e tree))
 
 -- ---- a turn

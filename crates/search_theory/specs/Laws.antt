@@ -1,15 +1,14 @@
 -- What a search rests on: facts on bounds and ceilings.
-use Rattle.std.specs.Prelude.{◌≡◌, ℕ, ◌≤◌, true, List, [], ◌∷◌, Contains, Some, length, map}
-use Rattle.row_program.specs.declared.Feature.{Feature}
+use Rattle.std.specs.Prelude.{◌≡◌, ℕ, ◌≤◌, true, List, [], ◌∷◌, Some, length}
 use Rattle.bound_tree.specs.Plain.{Plain}
 use Rattle.goal_rows.specs.Elections.{Election, Node}
 use Rattle.goal_rows.specs.Goals.{IsReached}
-use Rattle.goal_rows.specs.Nodes.{AreLimits, IsFeatureOf, number_count, without_limits}
+use Rattle.goal_rows.specs.Nodes.{AreLimits, number_count, without_limits}
 use Rattle.goal_rows.specs.declared.goals.Goal.TheVariants.{Root}
 use Rattle.dual_bound.specs.CutTest.{Cuts, IsBound}
 use Rattle.tree_proofs.specs.Proving.{Proves}
 use Rattle.node_bounds.specs.Ceilings.{IsCeiling, node_cost}
-use Rattle.search_theory.specs.Branchings.{Branching, IsBranching, IsLeastOf, IsWhole, Values, variables_at}
+use Rattle.search_theory.specs.Branchings.{IsLeastOf, IsWhole, Values}
 use Rattle.search_theory.specs.Ends.{Problem}
 use Rattle.search_theory.specs.Leaves.{Growth, MayGrow, kid_nodes}
 use Rattle.search_theory.specs.Spots.{has_cover}
@@ -29,10 +28,6 @@ EachOf P (x ∷ xs) = P x × EachOf P xs
 pub record AreLaws (p : Problem) : Type 0 where
   pub cuts : (node : Node) (ms : List ℕ) (b t : ℕ) → IsBound p.election node ms b → t ≤ b → Cuts p.election node ms t
   pub unique : (node : Node) (ms : List ℕ) (b c : ℕ) → IsBound p.election node ms b → IsBound p.election node ms c → b ≡ c
-  pub branches : (node : Node) (b : Branching) → IsReached p.election node.goal → IsBranching p.election node b →
-      IsFeatureOf p.election node.goal b.feature
-  pub variables : (node : Node) (feature : Feature) → IsReached p.election node.goal →
-      Contains (map (λ v. v.feature) (variables_at p.election node)) feature → IsFeatureOf p.election node.goal feature
   pub below : (node : Node) (b v : ℕ) → IsReached p.election node.goal → AreLimits p.election node →
       IsCutBySome p.election b node → IsCeiling p.election node v → b ≤ v
   pub inherits : (node : Node) (ms : List ℕ) (b : ℕ) (way : Growth) → IsReached p.election node.goal →

@@ -7,7 +7,7 @@ use Rattle.bound_tree.specs.declared.bound.TheConstants.{MOST_DEPTH}
 use Rattle.goal_rows.specs.Cells.{high_end, low_end}
 use Rattle.goal_rows.specs.Elections.{Election, Node}
 use Rattle.goal_rows.specs.Goals.{IsReached}
-use Rattle.goal_rows.specs.Nodes.{high_half, low_half, number_count, without_limits}
+use Rattle.goal_rows.specs.Nodes.{IsFeatureOf, high_half, low_half, number_count, without_limits}
 use Rattle.goal_rows.specs.declared.goals.Goal.TheVariants.{Root}
 use Rattle.dual_bound.specs.CutTest.{IsBound}
 use Rattle.node_bounds.specs.Ceilings.{IsCeiling}
@@ -35,9 +35,11 @@ IsKept e node None =
     (has_cover e node.goal ≡ true)
     ⊎ ((is_pair node.goal ≡ true) ⊎ ((IsSolid e node → ⊥) ⊎ IsCeiling e node (top_of e)))
 
--- each limit is on a variable of the program, of a small value, and leaves each variable a value
+-- each limit is on a feature of the goal that is a variable of the program, of a small value, and leaves each variable
+-- a value
 pub record HasRanges (e : Election) (node : Node) : Type 0 where
   pub small : All (λ limit. limit.value ≤ MOST_BALLOTS) node.limits
+  pub features : All (λ limit. IsFeatureOf e node.goal limit.feature) node.limits
   pub on_variables : All (λ limit. Contains (map (λ v. v.feature) (variables_at e node)) limit.feature) node.limits
   pub some : All (λ v. low_end node.limits v.feature ≤ high_end node.limits v) (variables_at e node)
 
@@ -115,7 +117,8 @@ pub data Growth : Type 0 where
 -- the leaf may grow so
 abbrev pub MayGrow : Election → Growth → Node → Type 0
 MayGrow e ByCover node = has_cover e node.goal ≡ true
-MayGrow e (ByBranch b) node = (has_cover e node.goal ≡ false) × IsBranching e node b
+MayGrow e (ByBranch b) node =
+    (has_cover e node.goal ≡ false) × IsFeatureOf e node.goal b.feature × IsBranching e node b
 
 -- the nodes that come
 abbrev pub kid_nodes : Election → Growth → Node → List Node

@@ -2,6 +2,7 @@
 use Rattle.std.specs.Prelude.{◌≡◌, ◌⊎◌, ℕ, ◌+◌, ◌<◌, ◌≤◌, List, [], ◌∷◌, true, false, length}
 use Rattle.bound_tree.specs.Plain.{Plain}
 use Rattle.goal_rows.specs.Elections.{Election, Node}
+use Rattle.goal_rows.specs.Nodes.{IsFeatureOf}
 use Rattle.dual_bound.specs.CutTest.{IsBound}
 use Rattle.node_bounds.specs.Ceilings.{IsCeiling}
 use Rattle.search_theory.specs.Branchings.{Branching, IsBranching, IsSolid}
@@ -50,7 +51,8 @@ IsSplitNeeded e t spot = IsSplitHere e spot × HasAnchor e spot (IsInReach e t)
 
 abbrev pub IsBranchNeeded : Election → ℕ → Spot → Branching → Type 0
 IsBranchNeeded e t spot b =
-    (has_cover e spot.node.goal ≡ false) × IsBranching e spot.node b × HasAnchor e spot (IsInReach e t)
+    (has_cover e spot.node.goal ≡ false) × IsFeatureOf e spot.node.goal b.feature × IsBranching e spot.node b
+    × HasAnchor e spot (IsInReach e t)
 
 abbrev pub needed_words : Election → ℕ → Words
 needed_words e t = record {

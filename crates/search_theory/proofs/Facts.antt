@@ -1,0 +1,96 @@
+-- The facts on bounds and ceilings that a search rests on.
+use Rattle.std.proofs.Common.{◌≡◌, ℕ, zero, suc, ◌+◌, ◌*◌, ◌<◌, ◌≤◌, ◌∙◌, ◌⊎◌, List, [], ◌∷◌, Some, length, get_or, refl, sym, ap, subst, inl, inr, arith}
+use Rattle.std.proofs.Math.Nat.{mul-le-mul_right}
+use Rattle.std.proofs.lemmas.Bool.{cases_lt}
+use Rattle.std.proofs.lemmas.List.{ext_get_or}
+use Rattle.ballot_form.specs.Alterations.{IsAlteration, after}
+use Rattle.row_program.specs.Points.{IsLexAtMost}
+use Rattle.bound_tree.specs.Plain.{Plain}
+use Rattle.goal_rows.specs.Elections.{Election, Node}
+use Rattle.goal_rows.specs.Goals.{AreRoots, Holds, IsComplete}
+use Rattle.goal_rows.specs.Nodes.{without_limits}
+use Rattle.goal_rows.specs.declared.goals.Goal.{Goal}
+use Rattle.goal_rows.specs.declared.goals.Goal.TheVariants.{Root}
+use Rattle.dual_bound.specs.CutTest.{Cuts, IsBound}
+use Rattle.dual_bound.proofs.Sound.{cut_below, one_bound}
+use Rattle.dual_theory.proofs.Multiples.{cancel_nat}
+use Rattle.tree_proofs.specs.Proving.{Proves}
+use Rattle.tree_proofs.proofs.Refuted.{refuted}
+use Rattle.node_bounds.specs.Ceilings.{IsCeiling, IsNodePoint, node_cost}
+use Rattle.search_theory.specs.Branchings.{IsLeastOf, IsWhole, Values}
+
+-- a ceiling is one number
+pub one_ceiling : (e : Election) (node : Node) (v w : ℕ) → IsCeiling e node v → IsCeiling e node w → v ≡ w
+one_ceiling e node v w a b = elim a.reached [
+  | inl one ↦ elim b.reached [
+    | inl two ↦ omega (arith, a.least w two, b.least v one)
+    | inr none ↦ absurd (none.0 one.0 one.1 one.2)
+  ]
+  | inr none ↦ elim b.reached [
+    | inl two ↦ absurd (none.0 two.0 two.1 two.2)
+    | inr other ↦ none.1 ∙ sym other.1
+  ]
+]
+
+-- what costs at most u wholes costs at most u
+at_most_whole : (a u d : ℕ) → 1 ≤ d → a * d ≤ u * d → a ≤ u
+at_most_whole a u d some le = elim (cases_lt u a) [
+  | inl more ↦ absurd (
+      let step : (u + 1) * d ≤ a * d = mul-le-mul_right d (omega (arith, more)) in
+      let spread : (u + 1) * d ≡ u * d + d = omega arith in
+      omega (arith, step, spread, le, some))
+  | inr less ↦ less
+]
+
+-- a whole least point costs the ceiling
+pub whole_ceiling : (e : Election) (node : Node) (q : Values) → IsLeastOf e node q → IsWhole q → IsCeiling e node (node_cost e node q.whole)
+whole_ceiling e node q least whole =
+    let cost = node_cost e node q.whole in record {
+      reached = inl (q.whole, q.den, least.point, (let one : cost * q.den ≡ cost * 1 = ap (λ d. cost * d) whole in omega (arith, one)));
+      least = λ u at.
+          let more = least.cheapest at.0 at.1 at.2 in
+          let one : node_cost e node at.0 * q.den ≡ node_cost e node at.0 * 1 = ap (λ d. node_cost e node at.0 * d) whole in
+          at_most_whole cost u at.1 at.2.positive (omega (arith, more, one, at.3));
+    }
+
+both_ways : (xs ys : List ℕ) (d e : ℕ) → length xs ≡ length ys → IsLexAtMost xs d ys e → IsLexAtMost ys e xs d → (k : ℕ) → get_or xs k 0 * e ≡ get_or ys k 0 * d
+both_ways [] [] d e h l m k = omega arith
+both_ways [] (y ∷ ys) d e h l m k = absurd (omega (arith, h))
+both_ways (x ∷ xs) [] d e h l m k = absurd (omega (arith, h))
+both_ways (x ∷ xs) (y ∷ ys) d e h (inl l) (inl m) k = absurd (omega (arith, l, m))
+both_ways (x ∷ xs) (y ∷ ys) d e h (inl l) (inr m) k = absurd (let q = m.0 in omega (arith, l, q))
+both_ways (x ∷ xs) (y ∷ ys) d e h (inr l) (inl m) k = absurd (let q = l.0 in omega (arith, m, q))
+both_ways (x ∷ xs) (y ∷ ys) d e h (inr l) (inr m) zero = l.0
+both_ways (x ∷ xs) (y ∷ ys) d e h (inr l) (inr m) (suc k) = both_ways xs ys d e (omega (arith, h)) l.1 m.1 k
+
+-- a least point is one
+pub one_least : (e : Election) (node : Node) (q r : Values) → IsLeastOf e node q → IsLeastOf e node r → q ≡ r
+one_least e node q r a b =
+    let low = a.cheapest r.whole r.den b.point in
+    let high = b.cheapest q.whole q.den a.point in
+    let level : node_cost e node r.whole * q.den ≡ node_cost e node q.whole * r.den = omega (arith, low, high) in
+    let wide : length q.whole ≡ length r.whole = a.point.all_variables ∙ sym b.point.all_variables in
+    let values = both_ways q.whole r.whole q.den r.den wide (a.least r.whole r.den b.point level) (b.least q.whole q.den a.point (sym level)) in
+    let less : q.den ≤ r.den = a.lowest r.whole r.den b.point values in
+    let more : r.den ≤ q.den = b.lowest q.whole q.den a.point (λ k. sym (values k)) in
+    let same_den : q.den ≡ r.den = omega (arith, less, more) in
+    let above = a.point.positive in
+    let same : q.whole ≡ r.whole = ext_get_or 0 q.whole r.whole wide
+    (λ k h. cancel_nat q.den (get_or q.whole k 0) (get_or r.whole k 0) (omega (arith, above)) (ap (λ (m : ℕ). get_or q.whole k 0 * m) same_den ∙ values k)) in
+    let first : q ≡ record { whole = r.whole; den = q.den } = ap (λ (xs : List ℕ). record { whole = xs; den = q.den }) same in
+    first ∙ ap (λ (d : ℕ). record { whole = r.whole; den = d }) same_den
+
+-- what a tree proves is at most what is known to turn the outcome
+pub proved_at_most : (e : Election) (tree : Plain) (t : ℕ) (goal : Goal) (changes : List (ℕ × List ℕ)) → AreRoots e → Proves e t (without_limits Root) tree →
+    IsAlteration e.poll changes → IsComplete e goal → Holds e goal (after e.poll changes).ballots → t ≤ length changes
+proved_at_most e tree t goal changes lawful proved ok complete holds = elim (cases_lt (length changes) t) [
+  | inl short ↦ absurd (refuted e t changes goal ok short holds complete lawful tree proved)
+  | inr long ↦ long
+]
+
+-- a bound is a cut at each lower number
+pub cut_at : (e : Election) (node : Node) (ms : List ℕ) (b t : ℕ) → IsBound e node ms b → t ≤ b → Cuts e node ms t
+cut_at e node ms b t bound le = cut_below e node ms b t le bound.cut
+
+pub one_bound_alone : (e : Election) (node : Node) (ms : List ℕ) (b c : ℕ) → IsBound e node ms b → IsBound e node ms c → b ≡ c
+one_bound_alone e node ms b c a d = one_bound e node ms b c a d
