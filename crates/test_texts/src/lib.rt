@@ -10,3 +10,5 @@ mod certificates;
 mod fault_texts;
 #[cfg(test)]
 mod lines;
+#[cfg(test)]
+mod made;
