@@ -3,3 +3,4 @@ pub mod Turns
 pub mod Proven
 pub mod Ended
 pub mod Facts
+pub mod Numbered

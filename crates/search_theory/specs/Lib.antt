@@ -4,3 +4,4 @@ pub mod Trees
 pub mod Ends
 pub mod Leaves
 pub mod Laws
+pub mod Numbers

@@ -1,4 +1,5 @@
-//! Tests of goals, their rows and the cut test, on small contests. It has no code of its own.
+//! Tests of goals, their rows, the cut test and the replacements with which a search begins, on small contests. It has no
+//! code of its own.
 #![tactic(auto)]
 
 #[cfg(test)]
@@ -7,3 +8,5 @@ mod cuts;
 mod goals;
 #[cfg(test)]
 mod rolls;
+#[cfg(test)]
+mod starts;
