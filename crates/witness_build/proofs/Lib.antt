@@ -1,7 +1,9 @@
 pub mod Thresholds
 pub mod Largest
 pub mod Cheapest
+pub mod AgainstWinner
 pub mod CoverEnds
+pub mod CutBallots
 pub mod EqualRuns
 pub mod Grounds
 pub mod Tables

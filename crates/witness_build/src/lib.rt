@@ -16,10 +16,12 @@ mod covers;
 mod laws;
 mod levels;
 mod pairs;
+mod rounds;
 mod starts;
 mod walks;
 
 pub use covers::cover_witness;
 pub use laws::no_shorter_alteration_meets_a_root_pair;
 pub use pairs::{Witness, pair_witness};
+pub use rounds::last_round;
 pub use starts::start_witness;
