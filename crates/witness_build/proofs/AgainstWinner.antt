@@ -10,7 +10,7 @@ use Rattle.irv_count.proofs.Members.{at_member, bool_cases, first_at, member_at,
 -- ---- places of an order
 
 -- two places have two candidates
-apart : (c : ℕ) (order : List ℕ) (i j : ℕ) → IsOrder c order → i < j → j < c → get_or order i 0 ≢ get_or order j 0
+pub apart : (c : ℕ) (order : List ℕ) (i j : ℕ) → IsOrder c order → i < j → j < c → get_or order i 0 ≢ get_or order j 0
 apart c order i j is less jc same =
     let long = is.long in
     let there : member (get_or order i 0) (take j order) ≡ true = at_member order i j less (omega (arith, long, less, jc)) in
@@ -19,7 +19,7 @@ apart c order i j is less jc same =
     cc
 
 -- who goes at place j stands where only the first i have gone
-still_stands : (c : ℕ) (order : List ℕ) (i j : ℕ) → IsOrder c order → i ≤ j → j < c → left_after order i (get_or order j 0) ≡ true
+pub still_stands : (c : ℕ) (order : List ℕ) (i j : ℕ) → IsOrder c order → i ≤ j → j < c → left_after order i (get_or order j 0) ≡ true
 still_stands c order i j is le jc = elim (bool_cases (member (get_or order j 0) (take i order))) [
   | inl gone ↦
       let at = first_at (get_or order j 0) order i gone in
@@ -28,7 +28,7 @@ still_stands c order i j is le jc = elim (bool_cases (member (get_or order j 0) 
 ]
 
 -- where all but two have gone, those two stand
-one_of_two : (c : ℕ) (order : List ℕ) (i y : ℕ) → IsOrder c order → c ≡ i + 2 → y < c → left_after order i y ≡ true → y ≢ get_or order (i + 1) 0 → y ≡ get_or order i 0
+pub one_of_two : (c : ℕ) (order : List ℕ) (i y : ℕ) → IsOrder c order → c ≡ i + 2 → y < c → left_after order i y ≡ true → y ≢ get_or order (i + 1) 0 → y ≡ get_or order i 0
 one_of_two c order i y is all yc stands differ =
     let long = is.long in
     let at = member_at y order (is.every y yc) in

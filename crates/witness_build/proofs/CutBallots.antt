@@ -222,7 +222,7 @@ cut_others z x r (y ∷ ballot) zr apart =
       | false ↦ All-cons (λ w. z ≢ w) y (cut_at x r ballot) (apart 0 y (omega arith)) rest
     ]
 
-valid_cut : (c x r : ℕ) (ballot : List ℕ) → r < c → IsValidBallot c ballot → holds_last x r ballot ≡ true → IsValidBallot c (cut_at x r ballot)
+pub valid_cut : (c x r : ℕ) (ballot : List ℕ) → r < c → IsValidBallot c ballot → holds_last x r ballot ≡ true → IsValidBallot c (cut_at x r ballot)
 valid_cut c x r [] rc valid held = valid
 valid_cut c x r (z ∷ ballot) rc valid held = elim (held_from x r z ballot held) [
   | inl at ↦ rw (cut_here x r z ballot at) (alone c r rc)

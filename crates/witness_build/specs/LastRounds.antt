@@ -37,13 +37,17 @@ last_lead p x r = held_count (last_two x r) p.ballots x - held_count (last_two x
 abbrev pub last_cuts : Poll → ℕ → ℕ → List (ℕ × List ℕ)
 last_cuts p x r = take (div_ceil (last_lead p x r) 2) (cuts_from x r 1 p.ballots)
 
--- x is the last of the reported order and r the one before; the replacements are the cuts of the last round, and the
--- goal is the order after them that is against x at each tie
-pub record IsLastRoundWitness (e : Election) (goal : Goal) (changes : List (ℕ × List ℕ)) : Type 0 where
+-- by the reported order r is the last to go out, and x wins
+pub record IsLastRound (p : Poll) (r x : ℕ) : Type 0 where
   pub front : List ℕ
+  pub order : IsOrderBy None p (front ++ r ∷ x ∷ [])
+
+-- the replacements are the cuts of the last round, in which x wins and r is the other one, and the goal is the order
+-- after them that is against x at each tie
+pub record IsLastRoundWitness (e : Election) (goal : Goal) (changes : List (ℕ × List ℕ)) : Type 0 where
   pub r : ℕ
   pub x : ℕ
-  pub reported : IsOrderBy None e.poll (front ++ r ∷ x ∷ [])
+  pub last : IsLastRound e.poll r x
   pub cuts : changes ≡ last_cuts e.poll x r
   pub against : List ℕ
   pub order : IsOrderBy (Some x) (after e.poll changes) against

@@ -2,11 +2,13 @@
 ghost use Rattle.std.specs.Prelude.{◌≡◌, ◌≤◌, ◌+◌, ◌++◌, ◌<◌, ◌^◌, IfOk, OnOk, map, take};
 ghost use Rattle.std.specs.List.{range_with_len};
 ghost use Rattle.alteration_model.specs.Faults.{pairs_of};
+ghost use Rattle.ballot_form.specs.Ballots.{IsPoll};
+ghost use Rattle.ballot_form.specs.Scores.{is_some_of};
 ghost use Rattle.ballot_form.specs.declared.rule.Rule.TheVariants.{Irv};
 ghost use Rattle.irv_count.specs.Orders.{held_count, holder};
 ghost use Rattle.goal_rows.specs.Goals.{root_goals};
 ghost use Rattle.goal_rows.specs.Races.{IsRace, election_of};
-ghost use Rattle.witness_build.specs.LastRounds.{IsLastRoundWitness, cut_at, cuts_from, last_two};
+ghost use Rattle.witness_build.specs.LastRounds.{IsLastRoundWitness, cut_at, cuts_from, last_cuts as cuts_of, last_two};
 ghost use Rattle.witness_build.specs.Witnesses.{IsMetBy};
 
 use crate::pairs::Witness;
@@ -34,10 +36,7 @@ pub fn last_round(alloc: Global, race: &Race<'_>) -> Result<Witness, Memory>
     let places = order.as_slice();
     let winner = places[places.len() - 1];
     let loser = places[places.len() - 2];
-    let over = last_count(race.roll, winner, loser, winner);
-    let under = last_count(race.roll, winner, loser, loser);
-    let puts = cuts(alloc, race.roll, winner, loser, over.saturating_sub(under).div_ceil(2))?;
-    let changes = Alteration::from_puts(alloc, race.roll, puts.as_slice())?;
+    let changes = last_cuts(alloc, race.roll, winner, loser)?;
     let altered = apply(alloc, race.roll, &changes)?;
     let against = order_against(alloc, &altered, winner)?;
     Ok(Witness {
@@ -46,17 +45,42 @@ pub fn last_round(alloc: Global, race: &Race<'_>) -> Result<Witness, Memory>
     })
 }
 
+/// The cuts that bring the loser of the last round level with the winner.
+fn last_cuts(alloc: Global, roll: &Roll, winner: Cand, loser: Cand) -> Result<Alteration, Memory>
+    requires poll { IsPoll roll.now }
+    requires loser { loser < roll.now.c }
+    ensures { IfOk result (λ changes. changes ≡ cuts_of roll.now winner loser) }
+{
+    let over = last_count(roll, winner, loser, winner);
+    let under = last_count(roll, winner, loser, loser);
+    let puts = first_cuts(
+        alloc,
+        roll,
+        winner,
+        loser,
+        over.saturating_sub(under).div_ceil(2),
+    )?;
+    Alteration::from_puts(alloc, roll, puts.as_slice())
+}
+
 /// How many ballots one of the last two holds in the last round.
 fn last_count(roll: &Roll, winner: Cand, loser: Cand, one: Cand) -> u32
     ensures { result ≡ held_count (last_two winner loser) roll.now.ballots one }
 {
     let mut count = 0;
     for run in roll.runs() {
-        if last_holder(run.row, winner, loser) == Some(one) {
+        if holds_in_last(run.row, winner, loser, one) {
             count += run.count;
         }
     }
     count
+}
+
+/// Whether one of the last two holds the ballot.
+fn holds_in_last(row: &[Cand], winner: Cand, loser: Cand, one: Cand) -> bool
+    ensures { result ≡ is_some_of (holder (last_two winner loser) row.now) one }
+{
+    last_holder(row, winner, loser) == Some(one)
 }
 
 /// Who of the last two holds the ballot.
@@ -67,7 +91,7 @@ fn last_holder(row: &[Cand], winner: Cand, loser: Cand) -> Option<Cand>
 }
 
 /// The cuts of the first so many ballots that the winner holds in the last round.
-fn cuts(
+fn first_cuts(
     alloc: Global,
     roll: &Roll,
     winner: Cand,
@@ -79,10 +103,13 @@ fn cuts(
     let mut puts = Vec::new(alloc);
     let mut left = most;
     for run in roll.runs() {
-        if last_holder(run.row, winner, loser) == Some(winner) {
+        if left == 0 {
+            break;
+        }
+        if holds_in_last(run.row, winner, loser, winner) {
             let count = left.min(run.count);
             let cut = cut(alloc, run.row, winner, loser)?;
-            push_equal(&mut puts, cut.as_slice(), run.first, count)?;
+            push_equal(alloc, &mut puts, cut.as_slice(), run.first, count)?;
             left -= count;
         }
     }
@@ -105,15 +132,20 @@ fn cut(alloc: Global, row: &[Cand], winner: Cand, loser: Cand) -> Result<CandLis
 }
 
 /// Adds the replacements of so many ballots, from this number on, by equal ones.
-fn push_equal(puts: &mut Vec<Put>, ballot: &[Cand], first: u32, count: u32) -> Result<(), Memory>
+fn push_equal(
+    alloc: Global,
+    puts: &mut Vec<Put>,
+    ballot: &[Cand],
+    first: u32,
+    count: u32,
+) -> Result<(), Memory>
     requires { first + count < 2 ^ 32 }
     ensures { OnOk result (pairs_of puts.new.items
         ≡ pairs_of puts.old.items ++ map (λ number. (number, ballot.now)) (range_with_len first count)) }
 {
-    let alloc = *puts.allocator();
-    for number in first..first + count {
+    for i in 0..count {
         puts.push(Put {
-            number,
+            number: first + i,
             ballot: CandList::from_slice(alloc, ballot)?,
         })?;
     }
