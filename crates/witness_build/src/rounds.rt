@@ -53,13 +53,8 @@ fn last_cuts(alloc: Global, roll: &Roll, winner: Cand, loser: Cand) -> Result<Al
 {
     let over = last_count(roll, winner, loser, winner);
     let under = last_count(roll, winner, loser, loser);
-    let puts = first_cuts(
-        alloc,
-        roll,
-        winner,
-        loser,
-        over.saturating_sub(under).div_ceil(2),
-    )?;
+    let lead = over.saturating_sub(under);
+    let puts = first_cuts(alloc, roll, winner, loser, lead.div_ceil(2))?;
     Alteration::from_puts(alloc, roll, puts.as_slice())
 }
 

@@ -13,7 +13,7 @@ from_puts-requires c =
     let r = c.args.loser in
     let over = c.last_count-over.ensures in
     let under = c.last_count-under.ensures in
-    let lead : c.saturating_sub.result ≡ last_lead p x r = omega (arith, over, under, c.saturating_sub.ensures) in
+    let lead : c.saturating_sub-lead.result ≡ last_lead p x r = omega (arith, over, under, c.saturating_sub-lead.ensures) in
     let half : c.div_ceil.result ≡ half_lead p x r = c.div_ceil.ensures ∙ ap (λ n. div_ceil n 2) lead in
     let are : pairs_of c.as_slice.result.now ≡ last_cuts p x r =
     ap pairs_of c.as_slice.ensures.value ∙ c.in_ok-puts.ensures ∙ ap (λ k. take k (cuts_from x r 1 p.ballots)) half in
