@@ -1,10 +1,15 @@
 pub mod Thresholds
 pub mod Largest
 pub mod Cheapest
+pub mod AgainstWinner
 pub mod CoverEnds
+pub mod CutBallots
+pub mod CutRuns
 pub mod EqualRuns
 pub mod Grounds
 pub mod Tables
 pub mod Picks
 pub mod RootPairs
+pub mod StartNumbers
+pub mod TurnedRounds
 pub mod Nearby

@@ -1,5 +1,6 @@
 pub mod CoverWalks
 pub mod Lacking
+pub mod LastRounds
 pub mod Levels
 pub mod Nearest
 pub mod Starts

@@ -4,11 +4,14 @@
 //! gainer level with its loser, each by the ballot that ranks the gainer alone, of the ballots with the largest gains,
 //! lower numbers first at equal gains. `cover_witness` answers, where Condorcet's rule reports no winner, the shortest
 //! walk for a cover, which replaces ballots by its candidate alone until no other one is preferred to it by more
-//! ballots than prefer it. `start_witness` answers where a search begins what is known to turn the outcome: the
-//! replacements of the first root pair that the fewest bring level, or the shortest walk. No alteration of fewer
-//! replacements than those of pairs, whatever their new ballots, meets a root pair. Gains are counted by classes of
+//! ballots than prefer it. `last_round` answers, under instant runoff, the ballots of the winner in the last round that
+//! are cut off for the one who goes out there: half as many as the winner is ahead. `start_witness` answers where a
+//! search begins what is known to turn the outcome: the replacements of the first root pair that the fewest bring
+//! level, the shortest walk, or the cuts of the last round. No alteration of fewer replacements than those of pairs,
+//! whatever their new ballots, meets a root pair; under instant runoff fewer may do. Gains are counted by classes of
 //! ballots, and the ballots to replace are found in one pass over the runs of equal ballots. The crate stands on the
-//! goals of `goal_rows`, the pairs of `condorcet_count` and the alterations of `alteration_model`.
+//! goals of `goal_rows`, the pairs of `condorcet_count`, the orders of `irv_count` and the alterations of
+//! `alteration_model`.
 #![tactic(auto)]
 
 mod chosen;
@@ -16,10 +19,12 @@ mod covers;
 mod laws;
 mod levels;
 mod pairs;
+mod rounds;
 mod starts;
 mod walks;
 
 pub use covers::cover_witness;
-pub use laws::no_shorter_alteration_meets_a_root_pair;
+pub use laws::{a_start_witness_has_the_start_number, no_shorter_alteration_meets_a_root_pair};
 pub use pairs::{Witness, pair_witness};
+pub use rounds::last_round;
 pub use starts::start_witness;

@@ -1,5 +1,5 @@
-// The cheapest replacements of the root's pairs.
-ghost use Rattle.std.specs.Prelude.{◌≡◌, ◌≢◌, ◌↔◌, All, None, IfOk, IfSome, length};
+// Where a search begins.
+ghost use Rattle.std.specs.Prelude.{◌≡◌, ◌↔◌, All, None, IfOk, IfSome, IsTrue, length};
 ghost use Rattle.ballot_form.specs.declared.rule.Rule.TheVariants.{Irv};
 ghost use Rattle.goal_rows.specs.Goals.{IsDecidedByPairs, root_goals};
 ghost use Rattle.goal_rows.specs.Races.{IsRace, election_of};
@@ -10,6 +10,7 @@ ghost use Rattle.witness_build.specs.Witnesses.{IsMetBy, IsPair, IsStartWitness}
 use crate::covers::cover_witness;
 use crate::levels::{Level, level_of};
 use crate::pairs::{Witness, witness_at};
+use crate::rounds::last_round;
 use ballot_form::{Outcome, Rule};
 use goal_rows::ground;
 use goal_rows::parts::{Ground, Race};
@@ -17,12 +18,11 @@ use mov_base::Memory;
 use std::alloc::Global;
 
 /// Where a search begins: where the contest is decided by pairs, the cheapest replacements of the first root pair that
-/// the fewest bring level, and where Condorcet's rule reports no winner, the shortest walk for a cover; none exactly
-/// where there is one candidate. The race has its own roots, under another rule than instant runoff.
+/// the fewest bring level; where Condorcet's rule reports no winner, the shortest walk for a cover; and under instant
+/// runoff the cuts of the last round. None exactly where there is one candidate. The race has its own roots.
 pub fn start_witness(alloc: Global, race: &Race<'_>) -> Result<Option<Witness>, Memory>
     requires race { IsRace race.now }
     requires own { race.now.roots ≡ root_goals race.now.rule race.now.roll.now.c race.now.reported }
-    requires rule { race.now.rule ≢ Irv }
     ensures none { IfOk result (λ found. (found ≡ None) ↔ (race.now.roll.now.c ≡ 1)) }
     ensures start { IfOk result (λ found. IfSome found (λ w. IsStart (election_of race.now) w.goal w.changes)) }
     ensures met { IfOk result (λ found. IfSome found (λ w. IsMetBy (election_of race.now) w.goal w.changes)) }
@@ -32,6 +32,9 @@ pub fn start_witness(alloc: Global, race: &Race<'_>) -> Result<Option<Witness>, 
     }
     if is_for_covers(race) {
         return Ok(Some(cover_witness(alloc, race)?));
+    }
+    if is_runoff(race.rule) {
+        return Ok(Some(last_round(alloc, race)?));
     }
     nearest_witness(alloc, race)
 }
@@ -44,6 +47,13 @@ fn is_for_covers(race: &Race<'_>) -> bool
         (Rule::Condorcet, Outcome::NoWinner) => true,
         _ => false,
     }
+}
+
+/// Whether the rule is instant runoff.
+fn is_runoff(rule: Rule) -> bool
+    ensures { IsTrue result ↔ (rule ≡ Irv) }
+{
+    matches!(rule, Rule::Irv)
 }
 
 /// The cheapest replacements of the first root pair that the fewest bring level; none exactly where there is one
