@@ -4,3 +4,4 @@ pub mod Proven
 pub mod Ended
 pub mod Facts
 pub mod Numbered
+pub mod Inherited
