@@ -7,17 +7,19 @@ use Rattle.ballot_form.specs.Alterations.{IsAlteration, after}
 use Rattle.row_program.specs.Points.{IsLexAtMost}
 use Rattle.bound_tree.specs.Plain.{Plain}
 use Rattle.goal_rows.specs.Elections.{Election, Node}
-use Rattle.goal_rows.specs.Goals.{AreRoots, Holds, IsComplete}
-use Rattle.goal_rows.specs.Nodes.{without_limits}
+use Rattle.goal_rows.specs.Goals.{AreRoots, Holds, IsComplete, IsElection, IsReached}
+use Rattle.goal_rows.specs.Nodes.{AreLimits, without_limits}
 use Rattle.goal_rows.specs.declared.goals.Goal.{Goal}
 use Rattle.goal_rows.specs.declared.goals.Goal.TheVariants.{Root}
-use Rattle.dual_bound.specs.CutTest.{Cuts, IsBound}
 use Rattle.dual_bound.proofs.Sound.{cut_below, one_bound}
 use Rattle.dual_theory.proofs.Multiples.{cancel_nat}
 use Rattle.tree_proofs.specs.Proving.{Proves}
 use Rattle.tree_proofs.proofs.Refuted.{refuted}
 use Rattle.node_bounds.specs.Ceilings.{IsCeiling, IsNodePoint, node_cost}
 use Rattle.search_theory.specs.Branchings.{IsLeastOf, IsWhole, Values}
+use Rattle.search_theory.specs.Ends.{IsKnown, Problem}
+use Rattle.search_theory.specs.Laws.{AreLaws, IsCutBySome}
+use Rattle.search_theory.proofs.Inherited.{inherits}
 
 -- a ceiling is one number
 pub one_ceiling : (e : Election) (node : Node) (v w : ℕ) → IsCeiling e node v → IsCeiling e node w → v ≡ w
@@ -88,9 +90,23 @@ proved_at_most e tree t goal changes lawful proved ok complete holds = elim (cas
   | inr long ↦ long
 ]
 
--- a bound is a cut at each lower number
-pub cut_at : (e : Election) (node : Node) (ms : List ℕ) (b t : ℕ) → IsBound e node ms b → t ≤ b → Cuts e node ms t
-cut_at e node ms b t bound le = cut_below e node ms b t le bound.cut
+-- no node is cut beyond its ceiling
+abbrev pub StaysBelow : Election → Type 0
+StaysBelow e = (node : Node) (b v : ℕ) → IsReached e node.goal → AreLimits e node → IsCutBySome e b node → IsCeiling e node v → b ≤ v
 
-pub one_bound_alone : (e : Election) (node : Node) (ms : List ℕ) (b c : ℕ) → IsBound e node ms b → IsBound e node ms c → b ≡ c
-one_bound_alone e node ms b c a d = one_bound e node ms b c a d
+-- all that a search rests on
+pub laws_of : (p : Problem) → IsElection p.election → IsKnown p → StaysBelow p.election → AreLaws p
+laws_of p election known below =
+    let e = p.election in
+    record {
+      cuts = λ node ms b t bound le. cut_below e node ms b t le bound.cut;
+      unique = λ node ms b c one two. one_bound e node ms b c one two;
+      below = below;
+      inherits = λ node ms b way reached may plain count bound. inherits e node ms b way may plain count bound;
+      one_ceiling = one_ceiling e;
+      one_least = one_least e;
+      whole = whole_ceiling e;
+      sound = λ tree t u proved is.
+          let met = known.met u is in
+          subst (λ n. t ≤ n) met.2 (proved_at_most e tree t met.1.1.0 met.0 election.roots proved met.1.0 met.1.1.1 met.1.1.2);
+    }

@@ -1,9 +1,13 @@
 -- Where a search ends.
-use Rattle.std.specs.Prelude.{◌≡◌, ◌⊎◌, ℕ, ◌+◌, ◌<◌, ◌≤◌, List, [], ◌∷◌, false, Option, Some, cond, length}
+use Rattle.std.specs.Prelude.{◌≡◌, ◌⊎◌, ℕ, ◌+◌, ◌<◌, ◌≤◌, List, [], ◌∷◌, false, Contains, Option, Some, cond, length}
+use Rattle.ballot_form.specs.Alterations.{IsAlteration, after}
 use Rattle.bound_tree.specs.Nodes.{size}
 use Rattle.bound_tree.specs.Plain.{Plain}
 use Rattle.bound_tree.specs.declared.bound.TheConstants.{MOST_DEPTH}
 use Rattle.goal_rows.specs.Elections.{Election}
+use Rattle.goal_rows.specs.Goals.{Holds, IsComplete}
+use Rattle.goal_rows.specs.declared.goals.Goal.{Goal}
+use Rattle.goal_rows.specs.declared.goals.Goal.TheVariants.{Pair}
 use Rattle.dual_bound.specs.CutTest.{IsBound}
 use Rattle.node_bounds.specs.Ceilings.{node_cost}
 use Rattle.search_theory.specs.Branchings.{IsLeastOf, IsSolid, IsWhole, Values}
@@ -16,6 +20,20 @@ pub record Problem : Type 0 where
   pub election : Election
   pub upper : Option ℕ
   pub budget : ℕ
+
+-- the alteration makes a complete goal hold
+abbrev pub MeetsSome : Election → List (ℕ × List ℕ) → Type 0
+MeetsSome e changes =
+    IsAlteration e.poll changes × ((goal : Goal) × IsComplete e goal × Holds e goal (after e.poll changes).ballots)
+
+-- what is known to turn the outcome is so, and where some alteration makes a pair of the root hold, no fewer replacements
+-- do that than are known
+pub record IsKnown (p : Problem) : Type 0 where
+  pub met : (u : ℕ) → p.upper ≡ Some u →
+      (changes : List (ℕ × List ℕ)) × MeetsSome p.election changes × (length changes ≡ u)
+  pub pairs : (g l : ℕ) (changes : List (ℕ × List ℕ)) → Contains p.election.roots (Pair g l) →
+      IsAlteration p.election.poll changes → Holds p.election (Pair g l) (after p.election.poll changes).ballots →
+      (u : ℕ) × (p.upper ≡ Some u) × (u ≤ length changes)
 
 -- no cut has a bound below t
 abbrev pub AllFrom : Election → ℕ → List Hung → Type 0
