@@ -16,3 +16,7 @@ pub mod OldCosts
 pub mod GoalCases
 pub mod SortedGains
 pub mod SmallGrounds
+pub mod CellEnds
+pub mod CellVariables
+pub mod GivenLimits
+pub mod CellMultipliers

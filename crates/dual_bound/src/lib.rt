@@ -14,6 +14,10 @@
 mod arc_weights;
 mod ballot_costs;
 mod bases;
+mod cell_cuts;
+mod cell_rows;
+mod cell_variables;
+mod cells;
 mod class_gains;
 mod features;
 mod largest;
@@ -22,6 +26,9 @@ mod nodes;
 mod scratch;
 mod weighing;
 
+pub use cell_cuts::cell_cut;
+pub use cell_variables::cell_values;
+pub use cells::is_cell;
 pub use laws::{
     a_bound_is_one_number, a_cut_holds_below, a_cut_is_sound, a_ground_has_few_classes,
     gains_are_one_list,

@@ -9,6 +9,8 @@ mod ballots;
 #[cfg(test)]
 mod base;
 #[cfg(test)]
+mod cells;
+#[cfg(test)]
 mod classes;
 #[cfg(test)]
 mod cuts;

@@ -11,6 +11,7 @@
 //! goals of `goal_rows`, the pairs of `condorcet_count` and the alterations of `alteration_model`.
 #![tactic(auto)]
 
+mod cells;
 mod chosen;
 mod covers;
 mod laws;
@@ -19,6 +20,7 @@ mod pairs;
 mod starts;
 mod walks;
 
+pub use cells::cell_point;
 pub use covers::cover_witness;
 pub use laws::no_shorter_alteration_meets_a_root_pair;
 pub use pairs::{Witness, pair_witness};
