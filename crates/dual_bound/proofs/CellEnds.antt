@@ -1,5 +1,5 @@
 -- The ends of what limits leave a variable.
-use Rattle.std.proofs.Common.{◌≡◌, ℕ, suc, ◌<◌, ◌≤◌, List, [], ◌∷◌, Bool, true, false, cond, refl, arith, All}
+use Rattle.std.proofs.Common.{ℕ, suc, ◌≤◌, List, [], ◌∷◌, Bool, true, false, cond, arith, All}
 use Rattle.std.specs.Prelude.{max, min}
 use Rattle.row_program.specs.declared.Feature.{Feature}
 use Rattle.row_program.specs.declared.Limit.{Limit}

@@ -12,7 +12,7 @@ use Rattle.row_program.specs.declared.Limit.{Limit}
 use Rattle.signature_class.specs.Classes.{keys_of}
 use Rattle.sig_graph.specs.Paths.{arc_at, arc_total, arcs_of}
 use Rattle.sig_graph.proofs.ArcNumbers.{IsArc, arc_at-within, arc_of, get_or-each, length-arcs_of}
-use Rattle.goal_rows.specs.Cells.{HasFeatures, IsCell, Variable, cell_values, low_end, variables_of}
+use Rattle.goal_rows.specs.Cells.{HasFeatures, Variable, cell_values, low_end, variables_of}
 use Rattle.goal_rows.specs.Programs.{arcs_under, costs_of}
 use Rattle.goal_rows.specs.declared.goals.Goal.{Goal}
 use Rattle.goal_rows.specs.declared.goals.Goal.TheVariants.{Root, Suffix, Pair, Cover}
@@ -89,7 +89,7 @@ each_arc P f m all u x begins ends =
     let long = made_of_arcs f m in
     subst P (get_or-each f m u x (f (u, x)) begins ends) (all k (f (u, x)) (omega (arith, low, long)))
 
-at_arc : {Y : Type 0} (f : ℕ × ℕ → Y) (m k : ℕ) (d : Y) (is : IsArc m k) → get_or (map f (arcs_of m)) k d ≡ f (is.from, is.to)
+pub at_arc : {Y : Type 0} (f : ℕ × ℕ → Y) (m k : ℕ) (d : Y) (is : IsArc m k) → get_or (map f (arcs_of m)) k d ≡ f (is.from, is.to)
 at_arc f m k d is = subst (λ j. get_or (map f (arcs_of m)) j d ≡ f (is.from, is.to)) is.is (get_or-each f m is.from is.to d is.begins is.ends)
 
 pub all_arcs : {Y : Type 0} (P : Y → Type 0) (f : ℕ × ℕ → Y) (m : ℕ) → ((u x : ℕ) → u < x → x ≤ m → P (f (u, x))) → All P (map f (arcs_of m))
@@ -206,6 +206,13 @@ on_class start key = (into, out)
     out at =
         subst (λ xs. Contains xs (From key)) (sym (features_are start))
         (Contains-append_left (map (λ c. From c.0) start.classes) (map arc_feature (arcs_of (places_of start.goal))) (From key) (class_from key start.classes at))
+
+-- an arc of the graph is among them
+pub arc_there : (m u x : ℕ) → (u < x) × (x ≤ m) → Contains (map (λ (a : ℕ × ℕ). Arc a.0 a.1) (arcs_of m)) (Arc u x)
+arc_there m u x at =
+    let long = made_of_arcs arc_feature m in
+    let low = arc_at-within m u x at.0 at.1 in
+    (arc_at m u x, omega (arith, low, long), get_or-each arc_feature m u x (Arc u x) at.0 at.1)
 
 pub on_arc : (start : Ground) (u x : ℕ) → Contains (features_of start) (Arc u x) ↔ ((u < x) × (x ≤ places_of start.goal))
 on_arc start u x = (into, out)

@@ -20,3 +20,5 @@ pub mod CellEnds
 pub mod CellVariables
 pub mod GivenLimits
 pub mod CellMultipliers
+pub mod CellFeatures
+pub mod CellCosts

@@ -1,7 +1,7 @@
 -- The multipliers of a cell, whose limits leave each variable of its program one value. There are three cases: these
 -- values break a row of the goal; they break a row of the flow and none of the goal; they break no row. The limits'
 -- rows and those of the classes are never broken in a cell.
-use Rattle.std.specs.Prelude.{ℕ, ◌==◌, ◌&&◌, not, nat_lt, Bool, Option, None, Some, List, [], ◌∷◌, ◌++◌, if◌then◌else◌, find, length, map, slice_index, slice_index_or, unsigned_abs, ℤ, pos, ◌-ℤ◌, int_lt}
+use Rattle.std.specs.Prelude.{ℕ, ◌==◌, ◌&&◌, not, nat_lt, Bool, Option, None, Some, List, [], ◌∷◌, ◌++◌, if◌then◌else◌, length, map, slice_index, slice_index_or, unsigned_abs, ℤ, pos, ◌-ℤ◌, int_lt}
 use Rattle.std.specs.Int.{int_max}
 use Rattle.std.specs.List.{list_any, position, range_with_len}
 use Rattle.ballot_form.specs.Scores.{is_some_of}

@@ -1,10 +1,9 @@
 -- The variables of a cell, class by class and arc by arc.
-use Rattle.std.specs.Prelude.{◌≡◌, ℕ, List, Contains}
+use Rattle.std.specs.Prelude.{◌≡◌, ℕ, List}
 use Rattle.row_program.specs.declared.Feature.{Feature}
 use Rattle.row_program.specs.declared.Feature.TheVariants.{From, Arc}
 use Rattle.row_program.specs.declared.Limit.{Limit}
 use Rattle.goal_rows.specs.Cells.{Variable, high_end, low_end}
-use Rattle.goal_rows.specs.declared.parts.Ground.{Ground}
 
 -- the variable that counts the feature, of which there are so many without limits
 abbrev pub variable : Feature → ℕ → Variable

@@ -10,7 +10,8 @@ ghost use Rattle.goal_rows.specs.Cells.{HasFeatures, IsCell, cell_values as valu
 ghost use Rattle.goal_rows.specs.Elections.{Election};
 ghost use Rattle.goal_rows.specs.Nodes.{AreLimits, node_of};
 ghost use Rattle.goal_rows.specs.Races.{IsGroundIn, IsSomeGround};
-ghost use Rattle.dual_bound.specs.CutTest.{AreMultipliers};
+ghost use Rattle.goal_rows.specs.Programs.{IsPointOf, point_cost_of};
+ghost use Rattle.dual_bound.specs.CutTest.{AreMultipliers, IsBound};
 ghost use Rattle.dual_bound.specs.CellCuts.{above_none as number_above, case_of as case_where, cell_multipliers, classes_in as one_of_class};
 ghost use Rattle.dual_bound.specs.CellCuts.{by_row as given_by_row, features_of, given_by, given_each, given_in, has_upper as has_tight_upper};
 ghost use Rattle.dual_bound.specs.declared.cell_cuts.Case.TheVariants.{FlowRow, NoRow};
@@ -48,6 +49,10 @@ pub fn cell_cut(alloc: Global, start: &Ground, limits: &[Limit]) -> Result<Multi
     requires cell { IsCell start.now limits.now }
     ensures each { IfOk result (λ multipliers. multipliers ≡ cell_multipliers start.now limits.now) }
     ensures one_each { IfOk result (AreMultipliers start.now limits.now) }
+    // Where the cell's values meet all rows, their cost is the bound.
+    ensures cost { IsPointOf start.now limits.now (values_of start.now limits.now) 1 →
+        (e : Election) → IsGroundIn e start.now → IfOk result (λ multipliers. IsBound e
+        (node_of start.now limits.now) multipliers (point_cost_of start.now (values_of start.now limits.now))) }
 {
     let features = features(alloc, start)?;
     let values = cell_values(alloc, start, limits)?;
@@ -251,7 +256,11 @@ fn by_flow_row(unbounded: bool, features: &[Feature], terms: &[Term], limit: &Li
     ensures value { result ≡ given_in (FlowRow unbounded) features.now terms.now limit.now }
     ensures small { result < TERM_LIMIT }
 {
-    let passed_over = if limit.at_most { unbounded } else { limit.value == 0 };
+    let passed_over = if limit.at_most {
+        unbounded
+    } else {
+        limit.value == 0
+    };
     if passed_over {
         0
     } else {

@@ -32,11 +32,7 @@ pub fn cell_values(alloc: Global, start: &Ground, limits: &[Limit]) -> Result<Nu
 }
 
 /// The least count of each feature that the limits leave.
-fn low_ends(
-    alloc: Global,
-    limits: &[Limit],
-    features: &[Feature],
-) -> Result<NumberList, Memory>
+fn low_ends(alloc: Global, limits: &[Limit], features: &[Feature]) -> Result<NumberList, Memory>
     requires { All (λ limit. limit.value ≤ MOST_BALLOTS) limits.now }
     ensures each { IfOk result (λ values. values ≡ map (least_count limits.now) features.now) }
     ensures small { IfOk result (All (λ value. value ≤ MOST_BALLOTS)) }

@@ -15,11 +15,7 @@ use std::alloc::Global;
 
 /// The one point of a cell: the values that the limits leave its variables, over 1; None exactly where these break a
 /// row. The node is the goal of `start` with these limits.
-pub fn cell_point(
-    alloc: Global,
-    start: &Ground,
-    limits: &[Limit],
-) -> Result<Option<Point>, Memory>
+pub fn cell_point(alloc: Global, start: &Ground, limits: &[Limit]) -> Result<Option<Point>, Memory>
     requires start { IsSomeGround start.now }
     requires limits { (e : Election) → IsGroundIn e start.now → AreLimits e (node_of start.now limits.now) }
     requires cell { IsCell start.now limits.now }

@@ -5,7 +5,12 @@ use Rattle.row_program.specs.Bounds.{IsRow}
 use Rattle.row_program.specs.Forms.{empty_row}
 use Rattle.row_program.specs.declared.program.Row.{Row}
 use Rattle.row_program.specs.declared.program.Term.{Term}
+use Rattle.goal_rows.specs.Cells.{cell_values}
+use Rattle.goal_rows.specs.Nodes.{node_of}
+use Rattle.goal_rows.specs.Programs.{point_cost_of}
 use Rattle.dual_bound.specs.CellCuts.{is_broken}
+use Rattle.dual_bound.specs.CutTest.{AreMultipliers, IsBound}
+use Rattle.dual_bound.proofs.CellCosts.{cell_cost}
 use Rattle.dual_bound.proofs.CellMultipliers.{broken_is, multipliers_are, multipliers_count, terms_within}
 use Rattle.dual_bound.proofs.CellVariables.{features_count, values_count}
 use Rattle.dual_bound.proofs.Sizes.{few_classes}
@@ -59,3 +64,11 @@ returns-clause-one_each c = record {
   one_each = ap length (returns-clause-each c) ∙ multipliers_count c.args.start.now c.args.limits.now;
   small = subst (λ (ls : List ℕ). All (λ l. l < WIDE) ls) c.multipliers.view_is c.multipliers.invariant;
 }
+
+pub returns-clause-cost : goal.returns-clause-cost
+returns-clause-cost c point e is =
+    let start = c.args.start.now in
+    let limits = c.args.limits.now in
+    let same = returns-clause-each c in
+    let are = subst (λ (ls : List ℕ). AreMultipliers start limits ls) same (returns-clause-one_each c) in
+    subst (λ (ls : List ℕ). IsBound e (node_of start limits) ls (point_cost_of start (cell_values start limits))) (sym same) (cell_cost e start limits is (c.requires.limits e is) c.requires.cell are point)

@@ -1,13 +1,12 @@
-use Rattle.std.proofs.Common.{ℕ, ◌≡◌, ◌<◌, ◌≤◌, ◌+◌, List, [], ◌∷◌, Bool, true, false, Option, Some, None, cond, length, get_or, ap, refl, sym, subst, ◌∙◌, arith, rules}
+use Rattle.std.proofs.Common.{ℕ, ◌≡◌, ◌<◌, List, Bool, true, false, Some, None, cond, length, get_or, ap, sym, subst, ◌∙◌, arith, rules}
 use Rattle.std.specs.Prelude.{pos, nat_lt, int_lt}
-use Rattle.std.specs.List.{position, position_or_len}
+use Rattle.std.specs.List.{position}
 use mir.Val.{SFits}
 use mir.Syntax.{w128}
 use Rattle.std.proofs.lemmas.Bool.Decides.{nat_tests}
 use Rattle.std.proofs.lemmas.Int.{to_z-of_z}
 use Rattle.std.proofs.lemmas.List.Sums.{position_or_len_is}
 use Rattle.row_program.specs.Forms.{empty_row}
-use Rattle.row_program.specs.Points.{row_value}
 use Rattle.row_program.specs.declared.program.Row.{Row}
 use Rattle.dual_bound.specs.CellCuts.{is_broken}
 use Rattle.dual_bound.proofs.cell_rows.first_broken.Goals as goal

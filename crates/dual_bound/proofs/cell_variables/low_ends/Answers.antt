@@ -1,4 +1,4 @@
-use Rattle.std.proofs.Common.{◌≡◌, ℕ, ◌≤◌, List, [], ◌∷◌, ◌∙◌, subst, sym, arith, All}
+use Rattle.std.proofs.Common.{◌≤◌, [], ◌∷◌, ◌∙◌, subst, sym, All}
 use Rattle.std.proofs.lemmas.List.Elements.{All-append, All-cons, All-nil}
 use Rattle.row_program.specs.declared.Feature.TheVariants.{From}
 use Rattle.goal_rows.specs.Cells.{low_end}

@@ -1,4 +1,4 @@
-use Rattle.std.proofs.Common.{ℕ, ◌+◌, arith}
+use Rattle.std.proofs.Common.{◌+◌, arith}
 use Rattle.dual_bound.specs.CellParts.{IsFixedClass}
 use Rattle.dual_bound.proofs.CellVariables.{one_more_at}
 use Rattle.dual_bound.proofs.cells.are_classes_fixed.Goals as goal

@@ -1,5 +1,4 @@
 use Rattle.std.proofs.Common.{◌≡◌, Bool, true, false, refl}
-use Rattle.dual_bound.specs.Sizes.{places_of}
 use Rattle.dual_bound.proofs.CellVariables.{all_fixed, fixed_arcs, fixed_classes}
 use Rattle.dual_bound.proofs.cells.has_one_point.Goals as goal
 
