@@ -50,7 +50,7 @@ walk_alters : (c x i : ℕ) (left done : List (List ℕ)) → x < c → i ≡ le
 walk_alters c x i [] done xc is = tt
 walk_alters c x i (ballot ∷ left) done xc is = go
     (λ row. let e : length (done ++ row ∷ []) + length left ≡ length done + length (ballot ∷ left) = omega (arith, length-append done (row ∷ [])) in
-    subst (λ n. IsAlterationFrom c (i + 1) n (puts_of x (walk_from c x (done ++ row ∷ []) left))) e (walk_alters c x (i + 1) left (done ++ row ∷ []) xc (one_more done row i is)))
+        subst (λ n. IsAlterationFrom c (i + 1) n (puts_of x (walk_from c x (done ++ row ∷ []) left))) e (walk_alters c x (i + 1) left (done ++ row ∷ []) xc (one_more done row i is)))
     (brings_closer c x (done ++ ballot ∷ left) ballot)
   where
     go : ((row : List ℕ) → IsAlterationFrom c (i + 1) (length done + length (ballot ∷ left)) (puts_of x (walk_from c x (done ++ row ∷ []) left))) → (b : Bool) → IsAlterationFrom c i (length done + length (ballot ∷ left))
@@ -126,20 +126,8 @@ behind_before x j done before now closer less =
     let b = pref_points_sum (done ++ now) j x in
     let d = pref_points_sum (done ++ before) x j in
     let e = pref_points_sum (done ++ before) j x in
-    omega (
-      arith,
-      closer.over,
-      closer.under,
-      less,
-      a,
-      b,
-      d,
-      e,
-      add_up-append (prefer_points x j) done now,
-      add_up-append (prefer_points j x) done now,
-      add_up-append (prefer_points x j) done before,
-      add_up-append (prefer_points j x) done before,
-    )
+    omega (arith, closer.over, closer.under, less, a, b, d, e, add_up-append (prefer_points x j) done now, add_up-append (prefer_points j x) done now,
+    add_up-append (prefer_points x j) done before, add_up-append (prefer_points j x) done before)
 
 -- ---- where x is behind j at the end, all ballots after the walk prefer x to j
 
@@ -176,7 +164,7 @@ all_over : (c x j : ℕ) (left done : List (List ℕ)) → j < c → j ≢ x →
 all_over c x j [] done jc differ less = record { over = omega arith; under = refl }
 all_over c x j (ballot ∷ left) done jc differ less = go
     (λ row behind. all_over c x j left (done ++ row ∷ []) jc differ
-    (subst (λ rows. pref_of rows x j < pref_of rows j x) (sym (append_assoc done (row ∷ []) (walked c x (done ++ row ∷ []) left))) behind))
+        (subst (λ rows. pref_of rows x j < pref_of rows j x) (sym (append_assoc done (row ∷ []) (walked c x (done ++ row ∷ []) left))) behind))
     (brings_closer c x (done ++ ballot ∷ left) ballot) refl less
   where
     go : ((row : List ℕ) → pref_of (done ++ row ∷ walked c x (done ++ row ∷ []) left) x j < pref_of (done ++ row ∷ walked c x (done ++ row ∷ []) left) j x

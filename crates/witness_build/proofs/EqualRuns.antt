@@ -219,7 +219,7 @@ run_past c x (suc n) zero needed row gain lacking done rest gains lacks are with
     let e : needed ≡ 0 = sym (all (omega arith)) in
     let none = none_brings c x row gain lacking (done ++ row ∷ (replicate n row ++ rest)) gains lacks (subst (λ m. AreNeededTo c x m gain lacking) e are) in
     let next = run_past c x n zero needed row gain lacking (done ++ row ∷ []) rest gains (moved_on c x row done (replicate n row ++ rest) lacking lacks) are (omega arith) (omega arith)
-    (λ _. sym e) in
+      (λ _. sym e) in
     record {
       past = next.past;
       long = omega (arith, next.long, length-append done (row ∷ []));
@@ -230,10 +230,10 @@ run_past c x (suc n) (suc k) zero row gain lacking done rest gains lacks are wit
 run_past c x (suc n) (suc k) (suc needed) row gain lacking done rest gains lacks are within most all =
     let some = needed_brings c x needed row gain lacking (done ++ row ∷ (replicate n row ++ rest)) gains lacks are in
     let less : AreLacking c x (λ j. lacking j - gain j) (done ++ (x ∷ []) ∷ (replicate n row ++ rest)) =
-    replaced_lacking c x row gain lacking done (replicate n row ++ rest) gains lacks in
+      replaced_lacking c x row gain lacking done (replicate n row ++ rest) gains lacks in
     let next = run_past c x n k needed row gain (λ j. lacking j - gain j) (done ++ (x ∷ []) ∷ []) rest gains
-    (moved_on c x (x ∷ []) done (replicate n row ++ rest) (λ j. lacking j - gain j) less) (needed_less c x needed gain lacking are) (omega (arith, within)) (omega (arith, most))
-    (λ lt. let e = all (omega (arith, lt)) in omega (arith, e)) in
+      (moved_on c x (x ∷ []) done (replicate n row ++ rest) (λ j. lacking j - gain j) less) (needed_less c x needed gain lacking are) (omega (arith, within)) (omega (arith, most))
+      (λ lt. let e = all (omega (arith, lt)) in omega (arith, e)) in
     let at : length (done ++ (x ∷ []) ∷ []) + 1 ≡ (length done + 1) + 1 = omega (arith, length-append done ((x ∷ []) ∷ [])) in
     record {
       past = next.past;
@@ -270,14 +270,14 @@ walk_more p x key k needed old run new numbers more lacking next xc few is key_i
     let gains : AreGains p.c x (gain_by key x) run.row.now = subst (λ n. AreGains p.c x (gain_by n x) run.row.now) (sym key_is) (gains_by_key p.c x run.row.now xc few) in
     let here : AreNeededTo p.c x needed (gain_by key x) (λ j. slice_index lacking j) = subst (λ n. AreNeededTo n x needed (gain_by key x) (λ j. slice_index lacking j)) on.size are in
     let lacks : AreLacking p.c x (λ j. slice_index lacking j) (on.done ++ (replicate run.count run.row.now ++ new.ballots)) =
-    subst (λ rows. AreLacking p.c x (λ j. slice_index lacking j) (on.done ++ rows)) is.joined on.lacks in
+      subst (λ rows. AreLacking p.c x (λ j. slice_index lacking j) (on.done ++ rows)) is.joined on.lacks in
     let past = run_past p.c x run.count k needed run.row.now (gain_by key x) (λ j. slice_index lacking j) on.done new.ballots gains lacks here
-    (omega (arith, count)) (omega (arith, count)) (λ lt. omega (arith, count, lt)) in
+      (omega (arith, count)) (omega (arith, count)) (λ lt. omega (arith, count, lt)) in
     let at : length on.done + 1 ≡ run.first = on.placed ∙ sym is.numbered in
     let walked : walk_from p.c x on.done old.ballots ≡ range_with_len (length on.done + 1) k ++ walk_from p.c x past.past new.ballots =
-    ap (walk_from p.c x on.done) is.joined ∙ past.walk in
+      ap (walk_from p.c x on.done) is.joined ∙ past.walk in
     let step : walk_from p.c x on.done old.ballots ≡ range_with_len run.first k ++ walk_from p.c x past.past new.ballots =
-    walked ∙ ap (λ i. range_with_len i k ++ walk_from p.c x past.past new.ballots) at in
+      walked ∙ ap (λ i. range_with_len i k ++ walk_from p.c x past.past new.ballots) at in
     record {
       done = past.past;
       placed = omega (arith, past.long, at, is.numbered, is.after);

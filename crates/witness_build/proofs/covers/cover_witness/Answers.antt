@@ -12,7 +12,7 @@ from_puts-requires c =
     let p = c.args.race.now.roll.now in
     let x = c.in_ok-shortest.shortest.candidate in
     let puts_are : pairs_of c.as_slice-2.result.now ≡ puts_of x (cover_walk p x) =
-    ap pairs_of c.as_slice-2.ensures.value ∙ c.in_ok-puts.ensures ∙ ap (puts_of x) (c.as_slice.ensures ∙ c.in_ok-shortest.ensures.numbers) in
+      ap pairs_of c.as_slice-2.ensures.value ∙ c.in_ok-puts.ensures ∙ ap (puts_of x) (c.as_slice.ensures ∙ c.in_ok-shortest.ensures.numbers) in
     subst (IsAlteration p) (sym puts_are) (walk_is_alteration p x c.in_ok-shortest.ensures.shortest.stands)
 
 changes_are : (c : goal.After-drop-shortest-2) → c.in_ok-changes.changes

@@ -32,10 +32,10 @@ loop-run-preserved c =
     let is = taken c.loop-run.lacking.len next (drop (length next) lacking) (size ∙ sym c.loop-run.lacking.ok.0) in
     let are = subst (λ (xs : List ℕ). AreNeededTo (length xs) x c.needed.result (gain_by key x) (λ j. slice_index xs j)) c.as_slice.ensures.value c.needed.ensures in
     let brought = subst (λ (xs : List ℕ). (j : ℕ) → j < length next → slice_index next j ≡ slice_index xs j - c.min-count.result * gain_by key x j)
-    c.as_mut_slice.ensures.value c.bring_closer.ensures in
+      c.as_mut_slice.ensures.value c.bring_closer.ensures in
     rw is (walk_more p x key c.min-count.result c.needed.result c.loop-run.run-iterator c.in-Some.run' c.next.new.self c.loop-run.numbers.items c.push_numbers.new.numbers.items lacking next
-    c.requires.stands (omega (arith, c.runs-run-items.ensures.poll.most)) c.in-Some.ensures.steps c.cover_key-key.ensures are c.min-count.ensures size brought c.in_ok-push_numbers.ensures
-    c.loop-run.invariant)
+      c.requires.stands (omega (arith, c.runs-run-items.ensures.poll.most)) c.in-Some.ensures.steps c.cover_key-key.ensures are c.min-count.ensures size brought c.in_ok-push_numbers.ensures
+      c.loop-run.invariant)
 
 pub returns : goal.returns
 returns c = c.from_vec.ensures ∙ walk_ended c.args.roll.now c.args.x c.loop-run.run-iterator c.loop-run.numbers.items c.loop-run.lacking.items c.in-None.ensures.steps.0 c.loop-run.invariant
