@@ -116,13 +116,13 @@ path_none m u f (x ∷ path) none =
 
 -- ---- parts of a list
 
-take_front : (xs ys : List ℕ) (n : ℕ) → length xs ≡ n → take n (xs ++ ys) ≡ xs
+pub take_front : (xs ys : List ℕ) (n : ℕ) → length xs ≡ n → take n (xs ++ ys) ≡ xs
 take_front [] ys zero e = refl
 take_front [] ys (suc n) e = absurd (omega (arith, e))
 take_front (x ∷ xs) ys zero e = absurd (omega (arith, e))
 take_front (x ∷ xs) ys (suc n) e = ap (λ zs. x ∷ zs) (take_front xs ys n (omega (arith, e)))
 
-drop_front : (xs ys : List ℕ) (n : ℕ) → length xs ≡ n → drop n (xs ++ ys) ≡ ys
+pub drop_front : (xs ys : List ℕ) (n : ℕ) → length xs ≡ n → drop n (xs ++ ys) ≡ ys
 drop_front [] ys zero e = refl
 drop_front [] ys (suc n) e = absurd (omega (arith, e))
 drop_front (x ∷ xs) ys zero e = absurd (omega (arith, e))
@@ -230,7 +230,7 @@ all_sum start limits features =
 
 -- ---- what a replacement brings
 
-by_key : (key : ℕ) (g : Feature) → is_from key g ≡ same_feature (From key) g
+pub by_key : (key : ℕ) (g : Feature) → is_from key g ≡ same_feature (From key) g
 by_key key (From other) = refl
 by_key key (Arc u p) = refl
 

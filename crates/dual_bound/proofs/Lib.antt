@@ -22,3 +22,6 @@ pub mod GivenLimits
 pub mod CellMultipliers
 pub mod CellFeatures
 pub mod CellCosts
+pub mod CellRowValues
+pub mod CellBreaks
+pub mod CellCovers
