@@ -1,27 +1,21 @@
 -- A cell whose values break a row: what is left of the row's rise where no limit holds it bounds the gains, and the
 -- multipliers cut at each number.
-use Rattle.std.proofs.Common.{◌≡◌, ◌⊎◌, ℕ, zero, suc, ◌+◌, ◌-◌, ◌*◌, ◌<◌, ◌≤◌, List, [], ◌∷◌, ◌++◌, Bool, true, false, Option, Some, None, cond, get_or, length, map, ap, refl, subst, sym, ◌∙◌, inl, inr, arith, All}
-use Rattle.std.specs.Prelude.{Contains, ℤ, pos, ◌+ℤ◌, ◌-ℤ◌, ◌*ℤ◌, ◌≤ℤ◌, ◌<ℤ◌, unsigned_abs}
+use Rattle.std.proofs.Common.{◌≡◌, ℕ, zero, suc, ◌+◌, ◌-◌, ◌*◌, ◌≤◌, List, [], ◌∷◌, Bool, true, false, cond, ap, refl, subst, sym, ◌∙◌, inl, inr, arith, All}
+use Rattle.std.specs.Prelude.{ℤ, pos, ◌+ℤ◌, ◌-ℤ◌, ◌*ℤ◌, ◌≤ℤ◌, ◌<ℤ◌, unsigned_abs}
 use Rattle.std.specs.Int.{int_max}
-use Rattle.std.specs.List.{list_any, range_with_len, zip}
+use Rattle.std.specs.List.{list_any}
 use Rattle.std.proofs.Math.IntN.{negsuc}
-use Rattle.std.proofs.lemmas.Bool.{cases_Bool}
 use Rattle.std.proofs.lemmas.Int.{int_max_is, ints}
 use Rattle.mov_base.specs.Sums.{add_up, most, sum_z}
-use Rattle.ballot_form.specs.Scores.{is_some_of}
-use Rattle.irv_count.proofs.Members.{differ_test, same_test}
 use Rattle.row_program.specs.declared.Feature.{Feature}
-use Rattle.row_program.specs.declared.Feature.TheVariants.{From, Arc}
 use Rattle.row_program.specs.declared.Limit.{Limit}
 use Rattle.row_program.specs.declared.program.Term.{Term}
-use Rattle.sig_graph.specs.Rows.{one_where}
-use Rattle.goal_rows.specs.Cells.{Variable, high_end, low_end}
+use Rattle.goal_rows.specs.Cells.{Variable, low_end}
 use Rattle.dual_bound.specs.CellCuts.{above_none, given_in, same_limit, times_on}
 use Rattle.dual_bound.specs.CellParts.{IsFixed}
 use Rattle.dual_bound.specs.declared.cell_cuts.Case.TheVariants.{GoalRow}
-use Rattle.dual_bound.specs.Largest.{CutsAt, IsGreatestCut}
-use Rattle.dual_bound.specs.Weighing.{gain_over, times_all}
-use Rattle.dual_bound.proofs.CellMultipliers.{row_part}
+use Rattle.dual_bound.specs.Largest.{IsGreatestCut}
+use Rattle.dual_bound.specs.Weighing.{gain_over}
 use Rattle.dual_bound.proofs.GivenLimits.{got, high_or_limit, kept_at, low_or_limit, lower, upper}
 
 -- ---- a number's two parts
@@ -46,7 +40,7 @@ two_parts (negsuc n) =
     let b = above_is (pos 0 -ℤ negsuc n) (suc n) (omega (arith, ints)) in
     omega (arith, ints, a, b)
 
-times_parts : (z : ℤ) (r f p : ℕ) → z ≡ pos r -ℤ pos f → z *ℤ pos p ≡ pos (r * p) -ℤ pos (f * p)
+pub times_parts : (z : ℤ) (r f p : ℕ) → z ≡ pos r -ℤ pos f → z *ℤ pos p ≡ pos (r * p) -ℤ pos (f * p)
 times_parts (pos n) r f p is =
     let e : r ≡ n + f = omega (arith, ints, is) in
     let m : r * p ≡ n * p + f * p = ap (λ k. k * p) e ∙ omega arith in

@@ -365,15 +365,21 @@ cost_ones [] f m rest = cost_zeros m rest
     cost_zeros (suc m) (x ∷ xs) = omega (arith, cost_zeros m xs)
 cost_ones (c ∷ cs) f m rest = omega (arith, cost_ones cs f m rest)
 
-pub cost_is : (start : Ground) (limits : List Limit) → point_cost_of start (cell_values start limits) ≡ class_cost start limits
-cost_is start limits =
+-- the values of the arcs
+abbrev pub arc_values : Ground → List Limit → List ℕ
+arc_values start limits = map (low_end limits) (map (λ (a : ℕ × ℕ). Arc a.0 a.1) (arcs_of (places_of start.goal)))
+
+pub class_values : (start : Ground) (limits : List Limit) → cell_values start limits ≡ map (λ (c : ℕ × ℕ). low_end limits (From c.0)) start.classes ++ arc_values start limits
+class_values start limits =
     let arcs = arcs_of (places_of start.goal) in
-    let values : cell_values start limits ≡ map (λ (c : ℕ × ℕ). low_end limits (From c.0)) start.classes ++ map (low_end limits) (map (λ (a : ℕ × ℕ). Arc a.0 a.1) arcs) =
     values_are start limits ∙ ap (map (low_end limits)) (features_are start)
     ∙ map-append (low_end limits) (map (λ (c : ℕ × ℕ). From c.0) start.classes) (map (λ (a : ℕ × ℕ). Arc a.0 a.1) arcs)
-    ∙ ap (λ xs. xs ++ map (low_end limits) (map (λ (a : ℕ × ℕ). Arc a.0 a.1) arcs)) (map_twice (low_end limits) (λ (c : ℕ × ℕ). From c.0) start.classes) in
-    ap (cost_of (costs_of start.classes (arcs_under start.goal))) values
-    ∙ cost_ones start.classes (λ c. low_end limits (From c.0)) (length (arcs_under start.goal)) (map (low_end limits) (map (λ (a : ℕ × ℕ). Arc a.0 a.1) arcs))
+    ∙ ap (λ xs. xs ++ map (low_end limits) (map (λ (a : ℕ × ℕ). Arc a.0 a.1) arcs)) (map_twice (low_end limits) (λ (c : ℕ × ℕ). From c.0) start.classes)
+
+pub cost_is : (start : Ground) (limits : List Limit) → point_cost_of start (cell_values start limits) ≡ class_cost start limits
+cost_is start limits =
+    ap (cost_of (costs_of start.classes (arcs_under start.goal))) (class_values start limits)
+    ∙ cost_ones start.classes (λ c. low_end limits (From c.0)) (length (arcs_under start.goal)) (arc_values start limits)
 
 -- values that meet all rows break none
 pub none_broken : (start : Ground) (limits : List Limit) → IsPointOf start limits (cell_values start limits) 1 → first_broken start limits ≡ None

@@ -1,16 +1,13 @@
 -- A cell of a cover whose values break a row of the goal is cut at each number.
-use Rattle.std.proofs.Common.{◌≡◌, ◌⊎◌, ℕ, zero, suc, ◌+◌, ◌-◌, ◌*◌, ◌<◌, ◌≤◌, List, [], ◌∷◌, ◌++◌, Bool, true, false, Option, Some, None, cond, drop, get_or, length, map, take, ap, refl, subst, sym, ◌∙◌, inl, inr, arith, All}
-use Rattle.std.specs.Prelude.{Contains, ℤ, pos, ◌+ℤ◌, ◌-ℤ◌, ◌*ℤ◌, ◌≤ℤ◌, ◌<ℤ◌, int_lt, nat_lt, nat_eq}
-use Rattle.std.specs.List.{list_any, range_with_len, zip}
+use Rattle.std.proofs.Common.{◌≡◌, ℕ, zero, suc, ◌+◌, ◌*◌, ◌<◌, ◌≤◌, List, [], ◌∷◌, ◌++◌, true, Some, cond, drop, get_or, length, map, take, ap, refl, subst, sym, ◌∙◌, arith}
+use Rattle.std.specs.Prelude.{Contains, ℤ, pos, ◌+ℤ◌, ◌-ℤ◌, ◌*ℤ◌, ◌<ℤ◌, int_lt, nat_lt}
+use Rattle.std.specs.List.{list_any, range_with_len}
 use Rattle.std.proofs.Math.IntN.{negsuc}
-use Rattle.std.proofs.lemmas.Bool.{cases_eq}
 use Rattle.std.proofs.lemmas.Bool.Decides.{nat_tests}
 use Rattle.std.proofs.lemmas.Int.{ints}
 use Rattle.std.proofs.lemmas.List.{get_or_append_left, length-append, length-map}
 use Rattle.std.proofs.lemmas.List.FromFn.{length-range_with_len}
-use Rattle.std.proofs.lemmas.List.Elements.{Contains-get_or}
 use Rattle.std.proofs.lemmas.List.Quantifiers.{position-Some}
-use Rattle.std.proofs.lemmas.Slice.Zip.{get_or-zip}
 use Rattle.mov_base.specs.Sums.{add_up, sum_z}
 use Rattle.mov_base.proofs.Sums.{add_up-append, add_up-map}
 use Rattle.ballot_form.specs.Scores.{is_some_of}
@@ -29,7 +26,7 @@ use Rattle.sig_graph.specs.Rows.{one_where}
 use Rattle.goal_rows.specs.Cells.{IsCell, Variable, cell_values, low_end, variables_of}
 use Rattle.goal_rows.specs.Elections.{Election}
 use Rattle.goal_rows.specs.Nodes.{AreLimits, node_of}
-use Rattle.goal_rows.specs.Programs.{arc_weight, arcs_under, goal_rows_of, key_weight, limit_rows_of, class_rows_of, flow_rows_of, program_rows, row_by, terms_of, weighings_of}
+use Rattle.goal_rows.specs.Programs.{arc_weight, goal_rows_of, key_weight, limit_rows_of, class_rows_of, flow_rows_of, program_rows, row_by, terms_of, weighings_of}
 use Rattle.goal_rows.specs.Races.{IsGroundIn, keys_of}
 use Rattle.goal_rows.specs.Suffixes.{others}
 use Rattle.goal_rows.specs.declared.goals.Goal.{Goal}
@@ -39,12 +36,10 @@ use Rattle.goal_rows.proofs.GroundSizes.{goal_rows_count, weighings_count}
 use Rattle.dual_bound.specs.CellCuts.{case_of, cell_multipliers, features_of, first_broken, given_each, given_in, is_broken, is_unbounded, terms_at, times_on}
 use Rattle.dual_bound.specs.CellParts.{variable}
 use Rattle.dual_bound.specs.CutTest.{AreMultipliers, IsBound}
-use Rattle.dual_bound.specs.declared.cell_cuts.Case.{Case}
 use Rattle.dual_bound.specs.declared.cell_cuts.Case.TheVariants.{GoalRow, FlowRow}
-use Rattle.dual_bound.specs.Largest.{CutsAt, IsGreatestCut}
 use Rattle.dual_bound.specs.Sizes.{places_of}
 use Rattle.dual_bound.specs.Weighing.{IsBestNew, base_by, cost_by, gain_by, is_from, limit_start, limits_bring, of_limits, of_rows, over_weight, times_all}
-use Rattle.dual_bound.proofs.CellBreaks.{all_base, cut_beyond, first, gain_most, left_on, one_change, weight}
+use Rattle.dual_bound.proofs.CellBreaks.{all_base, cut_beyond, gain_most, left_on, one_change, weight}
 use Rattle.dual_bound.proofs.CellCosts.{by_key, drop_front, take_front}
 use Rattle.dual_bound.proofs.CellFeatures.{counted_once}
 use Rattle.dual_bound.proofs.CellMultipliers.{row_part}
@@ -105,7 +100,7 @@ unit_sum r a (suc n) (suc i) at low =
 
 -- ---- the broken row
 
-at_of : {A B : Type 0} (f : A → B) (xs : List A) (k : ℕ) (d : B) (a : A) → k < length xs → get_or (map f xs) k d ≡ f (get_or xs k a)
+pub at_of : {A B : Type 0} (f : A → B) (xs : List A) (k : ℕ) (d : B) (a : A) → k < length xs → get_or (map f xs) k d ≡ f (get_or xs k a)
 at_of f [] k d a lt = absurd (omega (arith, lt))
 at_of f (x ∷ xs) zero d a lt = refl
 at_of f (x ∷ xs) (suc k) d a lt = at_of f xs k d a (omega (arith, lt))
@@ -197,10 +192,10 @@ module _ (e : Election) (start : Ground) (limits : List Limit) (r : ℕ) (is : I
       let one = ap (λ xs. times_all xs start.sums) rows_are ∙ unit_times r 0 n r start.sums (omega arith) low low in
       let once = λ (k : ℕ) (d : Limit) (lt : k < length limits). counted_once e start (get_or limits k d).feature is.values (cell.on_variables k d lt) in
       let two = ap (λ xs. times_all xs (map limit_start limits)) limits_are ∙ limits_base limits gives features [] limits once
-          ∙ sum_z-map (kept_at limits gives [] limits) (λ (v : Variable). v.feature) (variables_of start) in
+      ∙ sum_z-map (kept_at limits gives [] limits) (λ (v : Variable). v.feature) (variables_of start) in
       let held = all_base limits features broken_terms (variables_of start) cell.one_value in
       let sum = sym (sum_z-map (λ f. w f *ℤ pos (low_end limits f)) (λ (v : Variable). v.feature) (variables_of start))
-          ∙ sums_on (λ f. w f *ℤ pos (low_end limits f)) (λ f. weight_on (key_at start r) (arc_weight_at start r) f *ℤ pos (low_end limits f)) features (λ f there. ap (λ z. z *ℤ pos (low_end limits f)) (weight_is f there)) in
+      ∙ sums_on (λ f. w f *ℤ pos (low_end limits f)) (λ f. weight_on (key_at start r) (arc_weight_at start r) f *ℤ pos (low_end limits f)) features (λ f there. ap (λ z. z *ℤ pos (low_end limits f)) (weight_is f there)) in
       let value = ap (λ row. row_value row (cell_values start limits) 1) (goal_row_at e start limits r is low) ∙ row_in_cell (get_or start.sums r (pos 0)) (key_at start r) (arc_weight_at start r) start limits in
       let neg = row_below in
       omega (arith, ints, one, two, held, sum, value, neg)
@@ -228,7 +223,7 @@ module _ (e : Election) (start : Ground) (limits : List Limit) (r : ℕ) (is : I
 
 -- ---- covers
 
-abbrev with_goal : Ground → Goal → Ground
+abbrev pub with_goal : Ground → Goal → Ground
 with_goal start goal = record { goal = goal; classes = start.classes; sums = start.sums; ballots = start.ballots; lone = start.lone }
 
 pub cover_cut : (e : Election) (start : Ground) (x : ℕ) (limits : List Limit) (r : ℕ) → IsGroundIn e (with_goal start (Cover x)) → AreLimits e (node_of (with_goal start (Cover x)) limits)
@@ -248,16 +243,16 @@ cover_cut e start x limits r is few cell are broken low =
     let best : IsBestNew here limits ls (pos 1) = sym (ap (λ xs. pos (add_up (λ l. l) xs)) rows ∙ ap (λ k. pos k) (unit_sum r 0 n r (omega arith) low)) in
     let gain : (k : ℕ) → Contains (keys_of e (Cover x)) k → gain_by (pos 1) (cost_by here limits ls) k ≤ left (From k) =
     λ k there.
-        let m = length-map js (over_weight x k) in
-        let row = ap (λ xs. times_all xs (map (over_weight x k) js)) rows
-            ∙ unit_times r 0 n r (map (over_weight x k) js) (omega arith) low (omega (arith, m, count, low))
-            ∙ at_of (over_weight x k) js r (pos 0) 0 (omega (arith, count, low)) in
-        let bring = ap (λ xs. limits_bring (is_from k) xs limits) more ∙ limits_on limits (gives e here limits r is cell broken low) (From k) (is_from k) (by_key k) [] limits in
-        let w = weight_is e here limits r is cell broken low (From k) (key_there e here limits r is cell broken low k there) in
-        let over : key_at here r k ≡ pos 1 -ℤ over_weight x k (get_or js r 0) =
-        ap (λ (f : ℕ → ℤ). f k) (ap (λ (fs : List (ℕ → ℤ)). get_or fs r (λ k. pos 0)) (map_twice key_weight _ js) ∙ at_of (λ j k. pos 1 -ℤ over_weight x k j) js r (λ k. pos 0) 0 (omega (arith, count, low))) in
-        let change = one_change limits features (broken_terms e here limits r is cell broken low) (From k) in
-        gain_most (pos 1) (cost_by here limits ls k) (left (From k)) (omega (arith, ints, row, bring, w, over, change)) in
+    let m = length-map js (over_weight x k) in
+    let row = ap (λ xs. times_all xs (map (over_weight x k) js)) rows
+    ∙ unit_times r 0 n r (map (over_weight x k) js) (omega arith) low (omega (arith, m, count, low))
+    ∙ at_of (over_weight x k) js r (pos 0) 0 (omega (arith, count, low)) in
+    let bring = ap (λ xs. limits_bring (is_from k) xs limits) more ∙ limits_on limits (gives e here limits r is cell broken low) (From k) (is_from k) (by_key k) [] limits in
+    let w = weight_is e here limits r is cell broken low (From k) (key_there e here limits r is cell broken low k there) in
+    let over : key_at here r k ≡ pos 1 -ℤ over_weight x k (get_or js r 0) =
+    ap (λ (f : ℕ → ℤ). f k) (ap (λ (fs : List (ℕ → ℤ)). get_or fs r (λ k. pos 0)) (map_twice key_weight _ js) ∙ at_of (λ j k. pos 1 -ℤ over_weight x k j) js r (λ k. pos 0) 0 (omega (arith, count, low))) in
+    let change = one_change limits features (broken_terms e here limits r is cell broken low) (From k) in
+    gain_most (pos 1) (cost_by here limits ls k) (left (From k)) (omega (arith, ints, row, bring, w, over, change)) in
     let keys = keys_of e (Cover x) in
     let g = gain_by (pos 1) (cost_by here limits ls) in
     let most = made_most g (λ k. left (From k)) keys gain in

@@ -1,20 +1,18 @@
 -- What the rows of a program count for the features of its variables, and what they say at the values of a cell.
-use Rattle.std.proofs.Common.{◌≡◌, ◌⊎◌, ℕ, zero, suc, ◌+◌, ◌<◌, ◌≤◌, List, [], ◌∷◌, ◌++◌, Bool, true, false, cond, length, get_or, map, ap, refl, subst, sym, ◌∙◌, inl, inr, arith}
-use Rattle.std.specs.Prelude.{Contains, filter, ℤ, pos, ◌+ℤ◌, ◌*ℤ◌, not, ◌==◌, unsigned_abs}
+use Rattle.std.proofs.Common.{◌≡◌, ◌⊎◌, ℕ, zero, suc, ◌+◌, ◌<◌, ◌≤◌, List, [], ◌∷◌, ◌++◌, Bool, true, false, length, get_or, map, ap, refl, subst, sym, ◌∙◌, inl, inr, arith}
+use Rattle.std.specs.Prelude.{Contains, filter, ℤ, pos, ◌+ℤ◌, ◌*ℤ◌, not}
 use Rattle.std.specs.List.{range_with_len, zip}
 use Rattle.std.proofs.Math.IntN.{negsuc}
 use Rattle.std.proofs.lemmas.Bool.{cases_Bool, cases_eq}
 use Rattle.std.proofs.lemmas.Int.{ints}
 use Rattle.std.proofs.lemmas.List.{get_or_default, length-map, map-append}
-use Rattle.std.proofs.lemmas.List.FromFn.{length-range_with_len}
 use Rattle.mov_base.specs.Sums.{sum_z}
-use Rattle.irv_count.proofs.Members.{differ_test, same_test}
+use Rattle.irv_count.proofs.Members.{differ_test}
 use Rattle.row_program.specs.Forms.{empty_row}
 use Rattle.row_program.specs.Points.{row_value, term_value}
 use Rattle.row_program.specs.declared.Feature.{Feature}
 use Rattle.row_program.specs.declared.Feature.TheVariants.{From, Arc}
 use Rattle.row_program.specs.declared.Limit.{Limit}
-use Rattle.row_program.specs.declared.program.Term.{Term}
 use Rattle.sig_graph.specs.Paths.{arcs_of}
 use Rattle.goal_rows.specs.Cells.{cell_values, low_end, same_feature}
 use Rattle.goal_rows.specs.Programs.{arcs_under, is_some_weight, row_by, term_at, terms_of, weight_of}

@@ -210,7 +210,7 @@ module _ (limits : List Limit) (give : Limit → ℕ) where
   one_more n (pos k) = omega (arith, ints)
   one_more n (negsuc k) = omega (arith, ints)
 
-  each_time : (features : List Feature) (g : Feature) (z : ℤ) → sum_z (λ f. cond (same_feature f g) z (pos 0)) features ≡ pos (times_in features g) *ℤ z
+  pub each_time : (features : List Feature) (g : Feature) (z : ℤ) → sum_z (λ f. cond (same_feature f g) z (pos 0)) features ≡ pos (times_in features g) *ℤ z
   each_time [] g z = omega (arith, ints)
   each_time (f ∷ features) g z = by (same_feature f g) (each_time features g z)
     where
@@ -219,7 +219,7 @@ module _ (limits : List Limit) (give : Limit → ℕ) where
       by true h = let m = one_more (times_in features g) z in omega (arith, ints, h, m)
       by false h = rw h (omega (arith, ints))
 
-  one_time : (z : ℤ) (n : ℕ) → n ≡ 1 → pos n *ℤ z ≡ z
+  pub one_time : (z : ℤ) (n : ℕ) → n ≡ 1 → pos n *ℤ z ≡ z
   one_time z n e = rw e (by z)
     where
       by : (z : ℤ) → pos 1 *ℤ z ≡ z

@@ -25,3 +25,4 @@ pub mod CellCosts
 pub mod CellRowValues
 pub mod CellBreaks
 pub mod CellCovers
+pub mod CellHolds

@@ -1,1 +1,2 @@
 mod Grounds
+pub mod CellLimits

@@ -7,8 +7,9 @@
 //! ballots than prefer it. `start_witness` answers where a search begins what is known to turn the outcome: the
 //! replacements of the first root pair that the fewest bring level, or the shortest walk. No alteration of fewer
 //! replacements than those of pairs, whatever their new ballots, meets a root pair. Gains are counted by classes of
-//! ballots, and the ballots to replace are found in one pass over the runs of equal ballots. The crate stands on the
-//! goals of `goal_rows`, the pairs of `condorcet_count` and the alterations of `alteration_model`.
+//! ballots, and the ballots to replace are found in one pass over the runs of equal ballots. `cell_point` gives the one
+//! point of a cell. The crate stands on the goals of `goal_rows`, the cells of `dual_bound`, the pairs of
+//! `condorcet_count` and the alterations of `alteration_model`.
 #![tactic(auto)]
 
 mod cells;
