@@ -1,5 +1,5 @@
 -- Limits on the classes of three keys below 8, under a cover of three candidates.
-use Rattle.std.proofs.Common.{ℕ, zero, suc, ◌≡◌, ◌+◌, ◌<◌, ◌≤◌, ◌^◌, List, [], ◌∷◌, get_or, length, subst, sym, arith}
+use Rattle.std.proofs.Common.{ℕ, zero, suc, ◌≡◌, ◌<◌, ◌≤◌, ◌^◌, [], ◌∷◌, get_or, length, subst, sym, arith}
 use Rattle.row_program.specs.declared.Feature.{Feature}
 use Rattle.row_program.specs.declared.Feature.TheVariants.{From}
 use Rattle.row_program.specs.declared.Limit.{Limit}
