@@ -16,3 +16,13 @@ pub mod OldCosts
 pub mod GoalCases
 pub mod SortedGains
 pub mod SmallGrounds
+pub mod CellEnds
+pub mod CellVariables
+pub mod GivenLimits
+pub mod CellMultipliers
+pub mod CellFeatures
+pub mod CellCosts
+pub mod CellRowValues
+pub mod CellBreaks
+pub mod CellCovers
+pub mod CellHolds

@@ -4,3 +4,5 @@ pub mod Weighing
 pub mod WeighingParts
 pub mod Sizes
 pub mod Rooms
+pub mod CellParts
+pub mod CellCuts

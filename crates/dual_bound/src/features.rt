@@ -1,5 +1,6 @@
 // What limits bring, by the feature that a replacement counts for.
 ghost use Rattle.std.specs.Prelude.{◌≡◌, ◌≤◌, ◌<◌, ◌*◌, length, if◌then◌else◌, unsigned_abs, pos};
+ghost use Rattle.goal_rows.specs.Cells.{same_feature};
 ghost use Rattle.dual_bound.specs.Sizes.{AreNotWide};
 ghost use Rattle.dual_bound.specs.Weighing.{limits_bring, signed};
 ghost use Rattle.dual_bound.specs.WeighingParts.{is_feature};
@@ -46,8 +47,9 @@ fn brought(limit: &Limit, multiplier: u64) -> i128
 }
 
 /// Whether the two features are one.
-fn is_same(feature: Feature, other: Feature) -> bool
-    ensures { result ≡ is_feature feature other }
+pub(crate) fn is_same(feature: Feature, other: Feature) -> bool
+    ensures bringing { result ≡ is_feature feature other }
+    ensures same { result ≡ same_feature feature other }
 {
     match feature {
         Feature::From(key) => is_from_key(other, key),
@@ -57,7 +59,8 @@ fn is_same(feature: Feature, other: Feature) -> bool
 
 /// Whether the feature is that of the key.
 fn is_from_key(feature: Feature, key: u64) -> bool
-    ensures { result ≡ is_feature (Feature.From key) feature }
+    ensures bringing { result ≡ is_feature (Feature.From key) feature }
+    ensures same { result ≡ same_feature (Feature.From key) feature }
 {
     match feature {
         Feature::From(other) => other == key,
@@ -67,7 +70,8 @@ fn is_from_key(feature: Feature, key: u64) -> bool
 
 /// Whether the feature is the arc from u to x.
 fn is_arc_between(feature: Feature, u: u8, x: u8) -> bool
-    ensures { result ≡ is_feature (Feature.Arc u x) feature }
+    ensures bringing { result ≡ is_feature (Feature.Arc u x) feature }
+    ensures same { result ≡ same_feature (Feature.Arc u x) feature }
 {
     match feature {
         Feature::From(_) => false,

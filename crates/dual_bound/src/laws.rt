@@ -8,7 +8,7 @@ ghost use Rattle.goal_rows.specs.Races.{IsGroundIn};
 ghost use Rattle.goal_rows.specs.declared.parts.Ground.{Ground as AGround};
 ghost use Rattle.dual_bound.specs.CutTest.{AreGains, Cuts, IsBound};
 
-use crate::MOST_CLASSES;
+use goal_rows::MOST_CLASSES;
 
 /// Where multipliers cut a node at `t`, no alteration of fewer than `t` replacements meets it.
 pub fn a_cut_is_sound()

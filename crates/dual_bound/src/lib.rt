@@ -7,13 +7,19 @@
 //! classes of ballots, in a `Scratch` that is made before, and take no memory. Where the test passes, no shorter list
 //! of replacements meets the node. A node is any goal that is reached from the root, with limits on its features. What
 //! a new ballot brings at most is what the gainer alone does, or the candidate of a cover alone, or the best path of a
-//! suffix; what an old ballot costs is read from its key. The crate stands on `goal_rows`, on `sig_graph` for paths,
-//! and on `row_program` for limits.
+//! suffix; what an old ballot costs is read from its key. A node whose limits leave each variable of its program one
+//! value is a cell: `is_cell` tells cells, and `cell_cut` gives their multipliers (`specs/CellCuts.antt`), whose bound is
+//! what the values cost where these break no row. The crate stands on `goal_rows`, on `sig_graph` for paths, on
+//! `row_program` for limits, and on `bound_tree` for lists of multipliers.
 #![tactic(auto)]
 
 mod arc_weights;
 mod ballot_costs;
 mod bases;
+mod cell_cuts;
+mod cell_rows;
+mod cell_variables;
+mod cells;
 mod class_gains;
 mod features;
 mod largest;
@@ -22,9 +28,12 @@ mod nodes;
 mod scratch;
 mod weighing;
 
+pub use cell_cuts::cell_cut;
+pub use cell_variables::cell_values;
+pub use cells::is_cell;
 pub use laws::{
     a_bound_is_one_number, a_cut_holds_below, a_cut_is_sound, a_ground_has_few_classes,
     gains_are_one_list,
 };
 pub use nodes::{bound_of, cuts};
-pub use scratch::{MOST_CLASSES, Scratch};
+pub use scratch::Scratch;

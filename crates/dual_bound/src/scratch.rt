@@ -7,14 +7,12 @@ ghost use Rattle.dual_bound.specs.Sizes.{AreSmallLimits, IsSmallGround};
 ghost use Rattle.dual_bound.specs.Weighing.{IsBestNew, base_by, cost_by, gain_by};
 
 use crate::weighing::{Tables, bound_in_room, cuts_in_room};
+use goal_rows::MOST_CLASSES;
 use goal_rows::parts::Ground;
 use mov_base::Memory;
 use row_program::Limit;
 use std::alloc::Global;
 use std::marker::Model;
-
-/// The most classes of a node for which there is room.
-pub const MOST_CLASSES: usize = 4_096;
 
 /// Room for the gains of so many classes, and for every suffix; contracts see it as the number of classes.
 #[derive(Drop)]

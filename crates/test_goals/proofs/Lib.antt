@@ -1,1 +1,2 @@
+mod CellLimits
 mod Grounds

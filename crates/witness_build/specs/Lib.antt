@@ -1,3 +1,4 @@
+pub mod CellPoints
 pub mod CoverWalks
 pub mod Lacking
 pub mod LastRounds

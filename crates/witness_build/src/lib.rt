@@ -9,11 +9,12 @@
 //! search begins what is known to turn the outcome: the replacements of the first root pair that the fewest bring
 //! level, the shortest walk, or the cuts of the last round. No alteration of fewer replacements than those of pairs,
 //! whatever their new ballots, meets a root pair; under instant runoff fewer may do. Gains are counted by classes of
-//! ballots, and the ballots to replace are found in one pass over the runs of equal ballots. The crate stands on the
-//! goals of `goal_rows`, the pairs of `condorcet_count`, the orders of `irv_count` and the alterations of
-//! `alteration_model`.
+//! ballots, and the ballots to replace are found in one pass over the runs of equal ballots. `cell_point` gives the one
+//! point of a cell. The crate stands on the goals of `goal_rows`, the cells of `dual_bound`, the pairs of
+//! `condorcet_count`, the orders of `irv_count` and the alterations of `alteration_model`.
 #![tactic(auto)]
 
+mod cells;
 mod chosen;
 mod covers;
 mod laws;
@@ -23,6 +24,7 @@ mod rounds;
 mod starts;
 mod walks;
 
+pub use cells::cell_point;
 pub use covers::cover_witness;
 pub use laws::{a_start_witness_has_the_start_number, no_shorter_alteration_meets_a_root_pair};
 pub use pairs::{Witness, pair_witness};
