@@ -1,0 +1,5 @@
+pub mod SideBySide
+pub mod RowValues
+pub mod HeldPlaces
+pub mod KeyWorths
+pub mod ArcSums
