@@ -3,3 +3,5 @@ pub mod RowValues
 pub mod HeldPlaces
 pub mod KeyWorths
 pub mod ArcSums
+pub mod RestRows
+pub mod TakenGains
