@@ -5,3 +5,6 @@ pub mod KeyWorths
 pub mod ArcSums
 pub mod RestRows
 pub mod TakenGains
+pub mod Worths
+pub mod PointValues
+pub mod CeilingCuts
