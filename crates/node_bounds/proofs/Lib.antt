@@ -8,3 +8,4 @@ pub mod TakenGains
 pub mod Worths
 pub mod PointValues
 pub mod CeilingCuts
+pub mod Inheritance
