@@ -82,7 +82,7 @@ falls (negsuc n) not = omega (arith, ints)
 abbrev made : Goal → List (ℕ × ℕ) → List ℤ → ℕ → ℤ → Ground
 made goal classes sums ballots lone = record { goal = goal; classes = classes; sums = sums; ballots = ballots; lone = lone }
 
-ground_is : (e : Election) (start : Ground) → IsGroundIn e start → start ≡ ground_at e start.goal
+pub ground_is : (e : Election) (start : Ground) → IsGroundIn e start → start ≡ ground_at e start.goal
 ground_is e start is =
     let v = is.values in
     let goal = start.goal in
@@ -93,24 +93,24 @@ ground_is e start is =
     ∙ ap (λ n. made goal classes sums n start.lone) v.ballots
     ∙ ap (λ l. made goal classes sums (length e.poll.ballots) l) v.lone
 
-counted : (e : Election) (start : Ground) (limits : List Limit) (ls : List ℕ) → IsGroundIn e start → length ls ≡ length start.sums + length limits → AreCounted start limits ls
+pub counted : (e : Election) (start : Ground) (limits : List Limit) (ls : List ℕ) → IsGroundIn e start → length ls ≡ length start.sums + length limits → AreCounted start limits ls
 counted e start limits ls is one_each = record { rows = goal_rows_count start (e, is); weighings = weighings_count start (e, is); multipliers = one_each }
 
 -- ---- the test by classes
 
 -- the gains of the ballots, by their keys
-abbrev key_gains : Election → Ground → List Limit → List ℕ → ℤ → List ℕ
+abbrev pub key_gains : Election → Ground → List Limit → List ℕ → ℤ → List ℕ
 key_gains e start limits ls best = map (gain_by best (cost_by start limits ls)) (keys_of e start.goal)
 
 grouped : (best : ℤ) (cost : ℕ → ℤ) (classes : List (ℕ × ℕ)) (keys : List ℕ) → IsGrouped keys classes → IsGrouped (map (gain_by best cost) keys) (gains_by best cost classes)
 grouped best cost classes keys same f =
     add_up-map f (gain_by best cost) keys ∙ same (λ key. f (gain_by best cost key)) ∙ sym (add_up-map (λ p. p.1 * f p.0) (λ (c : ℕ × ℕ). (gain_by best cost c.0, c.1)) classes)
 
-grouped_gains : (e : Election) (start : Ground) (limits : List Limit) (ls : List ℕ) (best : ℤ) → IsGroundIn e start
+pub grouped_gains : (e : Election) (start : Ground) (limits : List Limit) (ls : List ℕ) (best : ℤ) → IsGroundIn e start
     → IsGrouped (key_gains e start limits ls best) (class_gains start limits ls best)
 grouped_gains e start limits ls best is = grouped best (cost_by start limits ls) start.classes (keys_of e start.goal) (grouped_keys e start is)
 
-exact : (e : Election) (start : Ground) (limits : List Limit) (ls : List ℕ) (best : ℤ) (t : ℕ) → IsGroundIn e start → AreLimits e (node_of start limits)
+pub exact : (e : Election) (start : Ground) (limits : List Limit) (ls : List ℕ) (best : ℤ) (t : ℕ) → IsGroundIn e start → AreLimits e (node_of start limits)
     → length ls ≡ length start.sums + length limits → t ≤ length e.poll.ballots + 1 → IsBestNew start limits ls best → ExactTest e start limits ls best t
 exact e start limits ls best t is few one_each within greatest =
     let n = is.values.ballots in
@@ -119,14 +119,14 @@ exact e start limits ls best t is few one_each within greatest =
 -- ---- no cut is beyond the ceiling
 
 -- the number of ballots in the classes
-enough : (e : Election) (start : Ground) (limits : List Limit) (ls : List ℕ) (best : ℤ) → IsGroundIn e start → (start.goal ≡ Root → ⊥)
+pub enough : (e : Election) (start : Ground) (limits : List Limit) (ls : List ℕ) (best : ℤ) → IsGroundIn e start → (start.goal ≡ Root → ⊥)
     → add_up (λ (p : ℕ × ℕ). p.1) (class_gains start limits ls best) ≡ length e.poll.ballots
 enough e start limits ls best is other =
     add_up-map (λ (p : ℕ × ℕ). p.1) (λ (c : ℕ × ℕ). (gain_by best (cost_by start limits ls) c.0, c.1)) start.classes
     ∙ (small_ground e start is other).counted ∙ is.values.ballots
 
 -- where the base and the k largest gains are below 0, no point costs at most k
-no_cheap_point : (e : Election) (start : Ground) (limits : List Limit) (ls : List ℕ) (best : ℤ) (k : ℕ) (whole : List ℕ) (den : ℕ) → IsGroundIn e start → AreLimits e (node_of start limits)
+pub no_cheap_point : (e : Election) (start : Ground) (limits : List Limit) (ls : List ℕ) (best : ℤ) (k : ℕ) (whole : List ℕ) (den : ℕ) → IsGroundIn e start → AreLimits e (node_of start limits)
     → length ls ≡ length start.sums + length limits → IsBestNew start limits ls best → (start.goal ≡ Root → ⊥) → k ≤ length e.poll.ballots
     → (base_by start limits ls +ℤ pos (most k (key_gains e start limits ls best))) <ℤ pos 0
     → IsPointOf start limits whole den → point_cost_of start whole ≤ k * den → ⊥
@@ -147,7 +147,7 @@ no_cheap_point e start limits ls best k whole den is few one_each greatest other
     let sum = distrib den (base_by start limits ls) (pos (most k gs)) in
     omega (arith, ints, some, brings, high, below, sum)
 
-cut_below_cost : (e : Election) (start : Ground) (limits : List Limit) (ls : List ℕ) (t : ℕ) (whole : List ℕ) (den v : ℕ) → IsGroundIn e start → AreLimits e (node_of start limits)
+pub cut_below_cost : (e : Election) (start : Ground) (limits : List Limit) (ls : List ℕ) (t : ℕ) (whole : List ℕ) (den v : ℕ) → IsGroundIn e start → AreLimits e (node_of start limits)
     → length ls ≡ length start.sums + length limits → (start.goal ≡ Root → ⊥) → t ≤ length e.poll.ballots + 1
     → Cuts e (node_of start limits) ls t → IsPointOf start limits whole den → point_cost_of start whole ≤ v * den → t ≤ v
 cut_below_cost e start limits ls t whole den v is few one_each other within cut point cheap = elim (cases_lt v t) [

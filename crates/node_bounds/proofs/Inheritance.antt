@@ -163,7 +163,7 @@ kid_cuts e goal place kid ls t is =
 
 -- ---- so no ceiling falls
 
-no_limits_are : (e : Election) (goal : Goal) → AreLimits e (without_limits goal)
+pub no_limits_are : (e : Election) (goal : Goal) → AreLimits e (without_limits goal)
 no_limits_are e goal = record { few = omega arith; small = λ k d lt. absurd (omega (arith, lt)); features = λ k d lt. absurd (omega (arith, lt)) }
 
 pub kid_ceiling : (e : Election) (goal : Goal) (place : ℕ) (start : Ground) (ls : List ℕ) (t v : ℕ) → IsGroundIn e start → IsKid e goal place start.goal → length ls ≡ length (rows_of e goal)

@@ -9,3 +9,5 @@ pub mod Worths
 pub mod PointValues
 pub mod CeilingCuts
 pub mod Inheritance
+pub mod PairBounds
+pub mod OneCeiling
