@@ -1,5 +1,5 @@
 -- How far multipliers cut a node: never beyond its ceiling, and those of its solved program up to it.
-use Rattle.std.proofs.Common.{◌≡◌, ◌⊎◌, ◌↔◌, ℕ, zero, suc, ◌+◌, ◌-◌, ◌*◌, ◌<◌, ◌≤◌, List, [], ◌∷◌, ◌++◌, min, length, map, drop, refl, sym, ap, subst, ◌∙◌, inl, inr, arith, All}
+use Rattle.std.proofs.Common.{◌≡◌, ℕ, zero, suc, ◌+◌, ◌-◌, ◌*◌, ◌<◌, ◌≤◌, List, ◌++◌, min, length, map, drop, refl, sym, ap, subst, ◌∙◌, inl, inr, arith, All}
 use Rattle.std.specs.Prelude.{ℤ, pos, ◌+ℤ◌, ◌-ℤ◌, ◌*ℤ◌, ◌≤ℤ◌, ◌<ℤ◌, nat_eq}
 use Rattle.std.proofs.Math.IntN.{negsuc}
 use Rattle.std.proofs.Math.Nat.{mul-le-mul_right}
@@ -18,8 +18,8 @@ use Rattle.signature_class.specs.Classes.{IsGrouped, classes_of}
 use Rattle.goal_rows.specs.Elections.{Election}
 use Rattle.goal_rows.specs.Goals.{rows_of}
 use Rattle.goal_rows.specs.Nodes.{AreLimits, node_of}
-use Rattle.goal_rows.specs.Programs.{IsPointOf, arcs_under, class_rows_of, costs_of, flow_rows_of, goal_rows_of, limit_rows_of, point_cost_of, program_rows}
-use Rattle.goal_rows.specs.Races.{IsGroundIn, keys_of, lone_weight}
+use Rattle.goal_rows.specs.Programs.{IsPointOf, class_rows_of, flow_rows_of, goal_rows_of, limit_rows_of, point_cost_of, program_rows}
+use Rattle.goal_rows.specs.Races.{IsGroundIn, keys_of}
 use Rattle.goal_rows.specs.declared.goals.Goal.{Goal}
 use Rattle.goal_rows.specs.declared.goals.Goal.TheVariants.{Root, Suffix, Pair, Cover}
 use Rattle.goal_rows.specs.declared.parts.Ground.{Ground}
@@ -30,12 +30,13 @@ use Rattle.dual_bound.specs.Weighing.{IsBestNew, base_by, cost_by, gain_by}
 use Rattle.dual_bound.specs.WeighingParts.{gains_by}
 use Rattle.dual_bound.proofs.Exact.{ExactTest, exact_by, grouped_keys, root_test}
 use Rattle.dual_bound.proofs.SmallGrounds.{small_ground}
-use Rattle.node_bounds.specs.Ceilings.{HasNoNodePoint, IsAffordable, IsCeiling, IsNodePoint, IsProgramOf, ground_at, node_cost}
+use Rattle.node_bounds.specs.Ceilings.{HasNoNodePoint, IsAffordable, IsCeiling, IsProgramOf, ground_at}
 use Rattle.node_bounds.proofs.PointValues.{all_numbers, apart, class_gains, cost_is, met_bring, point_brings, rest_met, rest_of, taken_bring, taken_met, within_gains}
 use Rattle.node_bounds.proofs.RestRows.{IsMetAt, classes_within}
 use Rattle.node_bounds.proofs.RowValues.{AreCounted, limit_count}
-use Rattle.node_bounds.proofs.TakenGains.{gained, gained-le_most, taken}
-use Rattle.node_bounds.proofs.Worths.{AreWorths, some_best, worths_of}
+use Rattle.node_bounds.proofs.TakenGains.{gained-le_most, taken}
+use Rattle.node_bounds.proofs.SideBySide.{turned, one_time}
+use Rattle.node_bounds.proofs.Worths.{some_best, worths_of}
 
 -- ---- whole numbers
 
@@ -63,10 +64,6 @@ grown d a b le = by (b -ℤ a) refl
         let same = ap (λ v. pos d *ℤ v) whole in
         omega (arith, ints, apart, same)
     by (negsuc n) is = absurd (omega (arith, ints, is, le))
-
-turned : (w : ℤ) (x : ℕ) → w *ℤ pos x ≡ pos x *ℤ w
-turned (pos n) x = omega (arith, ints)
-turned (negsuc n) x = omega (arith, ints)
 
 below_times : (d : ℕ) (z : ℤ) → 1 ≤ d → z <ℤ pos 0 → (pos d *ℤ z) <ℤ pos 0
 below_times d (pos n) some lt = absurd (omega (arith, ints, lt))
@@ -246,15 +243,11 @@ best_cuts e start limits program ls num den v is few made least bounds one_each 
     base_falls e start limits program ls best.0 k is few made one_each best.1 (λ whole rest cheap. falls (weighted ls program.rows whole 1) (λ some.
     let le = bounds whole 1 rest some in
     let one = turned num 1 in
-    let num_is : pos 1 *ℤ num ≡ num = times_one num in
+    let num_is : pos 1 *ℤ num ≡ num = one_time num in
     let cost = den_times (cost_of program.costs whole) k den least.positive cheap in
     let most_v = lowest k (omega (arith, ints, le, one, num_is, cost)) in
     omega (arith, less, most_v))))
   where
-    times_one : (z : ℤ) → pos 1 *ℤ z ≡ z
-    times_one (pos n) = omega (arith, ints)
-    times_one (negsuc n) = omega (arith, ints)
-
     den_times : (a b : ℕ) (d : ℤ) → pos 0 <ℤ d → a ≤ b → (pos a *ℤ d) ≤ℤ (pos b *ℤ d)
     den_times a b (pos n) some le = let m = mul-le-mul_right n le in omega (arith, ints, m)
     den_times a b (negsuc n) some le = absurd (omega (arith, ints, some))

@@ -1,16 +1,15 @@
 -- Multipliers of 0 change no cut: so a node cuts what it is split into as far as itself.
-use Rattle.std.proofs.Common.{◌≡◌, ◌⊎◌, ◌↔◌, ℕ, zero, suc, ◌+◌, ◌-◌, ◌<◌, ◌≤◌, List, [], ◌∷◌, ◌++◌, Option, Some, None, Bool, true, false, cond, min, length, get_or, map, replicate, refl, sym, ap, subst, ◌∙◌, inl, inr, arith, All}
-use Rattle.std.specs.Prelude.{ℤ, pos, ◌+ℤ◌, ◌*ℤ◌, ◌≤ℤ◌, ◌<ℤ◌, nat_lt, not}
+use Rattle.std.proofs.Common.{◌≡◌, ◌↔◌, ℕ, zero, suc, ◌+◌, ◌-◌, ◌<◌, ◌≤◌, List, [], ◌∷◌, ◌++◌, Some, None, Bool, true, false, cond, min, length, get_or, map, replicate, refl, sym, ap, subst, ◌∙◌, inl, inr, arith}
+use Rattle.std.specs.Prelude.{ℤ, pos, ◌+ℤ◌, ◌*ℤ◌, nat_lt, not}
 use Rattle.std.specs.List.{zip}
-use Rattle.std.proofs.Math.IntN.{negsuc}
 use Rattle.std.proofs.lemmas.Int.{ints}
 use Rattle.std.proofs.lemmas.List.{append_assoc, append-nil, length-append, length-map, length-replicate, map-append}
-use Rattle.mov_base.specs.Sums.{most, sum_z}
-use Rattle.ballot_form.specs.Ballots.{IsValidBallot, Poll}
+use Rattle.mov_base.specs.Sums.{sum_z}
+use Rattle.ballot_form.specs.Ballots.{Poll}
 use Rattle.irv_count.specs.Orders.{member}
 use Rattle.row_program.specs.declared.Limit.{Limit}
 use Rattle.goal_rows.specs.Elections.{Election, Node}
-use Rattle.goal_rows.specs.Goals.{IsKid, cover_of, longer_suffixes, rows_of}
+use Rattle.goal_rows.specs.Goals.{IsKid, longer_suffixes, rows_of}
 use Rattle.goal_rows.specs.Nodes.{AreLimits, Kept, kept_limit, kept_of, kept_row, node_of, with_limit, without_limits}
 use Rattle.goal_rows.specs.Races.{IsGroundIn}
 use Rattle.goal_rows.specs.Suffixes.{hold_weight, those}
@@ -21,6 +20,7 @@ use Rattle.goal_rows.proofs.GroundSizes.{sums_of}
 use Rattle.dual_bound.specs.CutTest.{AreGains, Cuts, CutsKept, IsGain, base_of, change_by, weighed_of}
 use Rattle.node_bounds.specs.Ceilings.{IsCeiling}
 use Rattle.node_bounds.specs.Inherited.{inherited_by_half, inherited_by_kid}
+use Rattle.node_bounds.proofs.SideBySide.{none_times}
 use Rattle.node_bounds.proofs.CeilingCuts.{cut_within_ceiling}
 
 -- ---- rows and limits that come to the same
@@ -56,10 +56,6 @@ both_ways : (p : Poll) (ws vs : List (ℕ × Kept)) (t : ℕ) → AreLike ws vs 
 both_ways p ws vs t like = (cuts_like p ws vs t like, cuts_like p vs ws t (record { base = sym like.base; change = λ swap. sym (like.change swap) }))
 
 -- ---- multipliers of 0
-
-none_times : (z : ℤ) → pos 0 *ℤ z ≡ pos 0
-none_times (pos n) = omega (arith, ints)
-none_times (negsuc n) = omega (arith, ints)
 
 zeros_front : (f : ℕ × Kept → ℤ) (new : List Kept) (ls : List ℕ) (old : List Kept) → ((k : Kept) → f (0, k) ≡ pos 0)
     → sum_z f (zip (replicate (length new) 0 ++ ls) (new ++ old)) ≡ sum_z f (zip ls old)

@@ -1,27 +1,25 @@
 -- What a replaced ballot is worth in the rows and limits of a node, by its key, and what the arcs of new ones are.
-use Rattle.std.proofs.Common.{◌≡◌, ◌⊎◌, ℕ, zero, suc, ◌+◌, ◌-◌, ◌*◌, ◌<◌, ◌≤◌, List, [], ◌∷◌, Bool, true, false, cond, length, map, get_or, refl, sym, ap, subst, ◌∙◌, inl, inr, arith}
-use Rattle.std.specs.Prelude.{ℤ, pos, ◌+ℤ◌, ◌-ℤ◌, ◌*ℤ◌, ◌≤ℤ◌, unsigned_abs, slice_index}
+use Rattle.std.proofs.Common.{◌≡◌, ℕ, ◌+◌, ◌-◌, ◌*◌, ◌≤◌, List, [], ◌∷◌, Bool, true, false, cond, length, map, refl, ap, ◌∙◌, inl, inr, arith}
+use Rattle.std.specs.Prelude.{ℤ, pos, ◌+ℤ◌, ◌-ℤ◌, ◌*ℤ◌, ◌≤ℤ◌, unsigned_abs}
 use Rattle.std.specs.Int.{int_max}
-use Rattle.std.specs.List.{flat_map, range_with_len, zip}
+use Rattle.std.specs.List.{flat_map, range_with_len}
 use Rattle.std.proofs.Math.IntN.{negsuc}
 use Rattle.std.proofs.Math.Nat.{mul-le-mul_left}
 use Rattle.std.proofs.lemmas.Bool.{cases_lt}
 use Rattle.std.proofs.lemmas.Int.{int_max_is, ints}
-use Rattle.mov_base.specs.Sums.{add_up, sum_z}
+use Rattle.mov_base.specs.Sums.{add_up}
 use Rattle.row_program.specs.declared.Feature.{Feature}
 use Rattle.row_program.specs.declared.Feature.TheVariants.{From, Arc}
 use Rattle.row_program.specs.declared.Limit.{Limit}
 use Rattle.signature_class.specs.declared.limits.TheConstants.{MOST_PLACES}
 use Rattle.sig_graph.specs.Paths.{path_sum}
 use Rattle.sig_graph.specs.Rows.{is_first_from, one_where, row_weight_of}
-use Rattle.goal_rows.specs.KeyCounts.{is_held, is_over}
-use Rattle.goal_rows.specs.Programs.{arc_weight, has_ends, has_key, held_rows, key_weight, one_more_in}
-use Rattle.goal_rows.specs.Suffixes.{others}
-use Rattle.irv_count.specs.Orders.{stands}
+use Rattle.goal_rows.specs.KeyCounts.{is_held}
+use Rattle.goal_rows.specs.Programs.{arc_weight, has_ends, has_key, held_rows, key_weight}
 use Rattle.dual_bound.specs.Weighing.{gain_over, is_arc, is_from, limits_bring, over_weight, places_by, row_arcs, row_places, rows_bring, signed, times_all}
 use Rattle.dual_bound.proofs.Keyed.{sum_z-made}
 use Rattle.dual_bound.proofs.PathArcs.{row_sum, rows_on_path}
-use Rattle.node_bounds.proofs.HeldPlaces.{alike_on_places, from_places, held_at, held_by_place, places_are_path, row_places_compared, rows_by_places}
+use Rattle.node_bounds.proofs.HeldPlaces.{alike_on_places, from_places, held_by_place, places_are_path, row_places_compared, rows_by_places}
 use Rattle.node_bounds.proofs.RowValues.{limit_arc, limit_key}
 use Rattle.node_bounds.proofs.SideBySide.{minus_inside, mixed, mixed_alike, mixed_minus}
 

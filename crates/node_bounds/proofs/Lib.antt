@@ -8,6 +8,7 @@ pub mod TakenGains
 pub mod Worths
 pub mod PointValues
 pub mod CeilingCuts
+pub mod CeilingSizes
 pub mod Inheritance
 pub mod PairBounds
 pub mod OneCeiling

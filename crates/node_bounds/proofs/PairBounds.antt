@@ -1,12 +1,12 @@
 -- The bound of a pair whose one row has the multiplier 1 is the pair's ceiling.
-use Rattle.std.proofs.Common.{◌≡◌, ◌⊎◌, ℕ, zero, suc, ◌+◌, ◌-◌, ◌*◌, ◌<◌, ◌≤◌, List, [], ◌∷◌, ◌++◌, length, map, refl, sym, ap, subst, ◌∙◌, inl, inr, arith, All}
-use Rattle.std.specs.Prelude.{ℤ, pos, ◌+ℤ◌, ◌*ℤ◌, ◌≤ℤ◌, ◌<ℤ◌}
+use Rattle.std.proofs.Common.{◌≡◌, ◌⊎◌, ℕ, ◌+◌, ◌-◌, ◌*◌, ◌≤◌, List, [], ◌∷◌, ◌++◌, length, sym, ap, subst, ◌∙◌, inl, inr, arith, All}
+use Rattle.std.specs.Prelude.{ℤ, pos, ◌+ℤ◌, ◌≤ℤ◌, ◌<ℤ◌}
 use Rattle.std.proofs.Math.IntN.{negsuc}
 use Rattle.std.proofs.lemmas.Bool.{cases_lt}
 use Rattle.std.proofs.lemmas.Int.{ints}
 use Rattle.std.proofs.lemmas.List.{append-nil, length-map}
 use Rattle.std.proofs.lemmas.List.Elements.{All-append, All-cons}
-use Rattle.mov_base.specs.Sums.{add_up, most}
+use Rattle.mov_base.specs.Sums.{most}
 use Rattle.row_program.specs.Points.{row_value}
 use Rattle.row_program.specs.declared.program.Row.{Row}
 use Rattle.dual_theory.specs.Multipliers.{weighted}
@@ -14,25 +14,21 @@ use Rattle.goal_rows.specs.Elections.{Election}
 use Rattle.goal_rows.specs.Nodes.{node_of}
 use Rattle.goal_rows.specs.Programs.{IsPointOf, class_rows_of, flow_rows_of, goal_rows_of, point_cost_of, program_rows}
 use Rattle.goal_rows.specs.Races.{IsGroundIn}
-use Rattle.goal_rows.specs.declared.goals.Goal.{Goal}
 use Rattle.goal_rows.specs.declared.goals.Goal.TheVariants.{Root, Pair}
 use Rattle.goal_rows.specs.declared.parts.Ground.{Ground}
 use Rattle.goal_rows.proofs.GroundSizes.{sums_of}
-use Rattle.dual_bound.specs.CutTest.{Cuts, IsBound}
+use Rattle.dual_bound.specs.CutTest.{IsBound}
 use Rattle.dual_bound.specs.Weighing.{IsBestNew, base_by, cost_by, gain_by}
-use Rattle.dual_bound.proofs.SmallGrounds.{small_ground}
 use Rattle.node_bounds.specs.Ceilings.{HasNoNodePoint, IsAffordable, IsCeiling, ground_at}
-use Rattle.node_bounds.proofs.CeilingCuts.{counted, cut_below_cost, enough, exact, ground_is, grouped_gains, key_gains, no_cheap_point}
+use Rattle.node_bounds.proofs.CeilingCuts.{counted, cut_below_cost, exact, ground_is, grouped_gains, key_gains, no_cheap_point}
+use Rattle.node_bounds.proofs.CeilingSizes.{all_ballots}
 use Rattle.node_bounds.proofs.Inheritance.{no_limits_are}
-use Rattle.node_bounds.proofs.PointValues.{all_numbers, apart, class_gains, cost_is, rest_met, taken_bring, taken_met}
-use Rattle.node_bounds.proofs.RestRows.{AreWithin, IsMetAt, classes_within}
+use Rattle.node_bounds.proofs.PointValues.{all_numbers, class_gains, cost_is, taken_bring, taken_met}
+use Rattle.node_bounds.proofs.RestRows.{IsMetAt}
 use Rattle.node_bounds.proofs.RowValues.{rows_kept}
 use Rattle.node_bounds.proofs.TakenGains.{taken}
+use Rattle.node_bounds.proofs.SideBySide.{one_time}
 use Rattle.node_bounds.proofs.Worths.{some_best, worths_of}
-
-one_time : (z : ℤ) → pos 1 *ℤ z ≡ z
-one_time (pos n) = omega (arith, ints)
-one_time (negsuc n) = omega (arith, ints)
 
 -- one row that isn't below 0, with its multiplier, is met
 one_met : (rows more : List Row) (whole : List ℕ) (den : ℕ) → length rows ≡ 1 → pos 0 ≤ℤ weighted (1 ∷ []) (rows ++ more) whole den → All (IsMetAt whole den) rows
@@ -49,25 +45,6 @@ all_met start whole den rows rest =
     let met = IsMetAt whole den in
     subst (All met) (sym (rows_kept start []))
     (All-append met (goal_rows_of start ++ []) (class_rows_of start.classes ++ flow_rows_of start) (subst (All met) (sym (append-nil (goal_rows_of start))) rows) rest)
-
-sum_within : (d : ℕ) (ps : List (ℕ × ℕ)) (xs : List ℕ) → length xs ≡ length ps → AreWithin d ps xs → add_up (λ x. x) xs ≤ d * add_up (λ (p : ℕ × ℕ). p.1) ps
-sum_within d [] [] long within = omega arith
-sum_within d [] (x ∷ xs) long within = absurd (omega (arith, long))
-sum_within d (p ∷ ps) [] long within = omega arith
-sum_within d (p ∷ ps) (x ∷ xs) long within = let rest = sum_within d ps xs (omega (arith, long)) within.1 in omega (arith, rest, within.0)
-
--- no point costs more than all ballots
-all_ballots : (e : Election) (start : Ground) (whole : List ℕ) (den : ℕ) → IsGroundIn e start → (start.goal ≡ Root → ⊥) → IsPointOf start [] whole den
-    → point_cost_of start whole ≤ length e.poll.ballots * den
-all_ballots e start whole den is other point =
-    let parts = apart start whole point.all_variables in
-    let met = subst (λ w. All (IsMetAt w den) (program_rows start [])) parts.is point.meets in
-    let within = classes_within start.classes parts.xs parts.ys den (rest_met start [] (parts.xs ++ parts.ys) den met).0 in
-    let few = sum_within den start.classes parts.xs parts.numbers.of_classes within in
-    let cost : point_cost_of start whole ≡ add_up (λ x. x) parts.xs = ap (point_cost_of start) parts.is ∙ cost_is start parts.xs parts.ys parts.numbers in
-    let count = (small_ground e start is other).counted ∙ is.values.ballots in
-    let same = ap (λ n. den * n) count in
-    omega (arith, few, cost, same)
 
 not_below : (z : ℤ) → (z <ℤ pos 0 → ⊥) → pos 0 ≤ℤ z
 not_below (pos n) not = omega (arith, ints)
@@ -88,8 +65,7 @@ cheap_point e start best k is one greatest some =
     let high = chosen.enough in
     let from : pos 0 ≤ℤ weighted ls (program_rows start []) whole 1 = omega (arith, ints, value, high, some) in
     let apart_is = rows_kept start [] ∙ ap (λ rows. rows ++ (class_rows_of start.classes ++ flow_rows_of start)) (append-nil (goal_rows_of start)) in
-    let row = one_met (goal_rows_of start) (class_rows_of start.classes ++ flow_rows_of start) whole 1 (count.rows ∙ one) (subst (λ rows. pos 0 ≤ℤ weighted ls rows whole 1) apart_is from) in
-    (
+    let row = one_met (goal_rows_of start) (class_rows_of start.classes ++ flow_rows_of start) whole 1 (count.rows ∙ one) (subst (λ rows. pos 0 ≤ℤ weighted ls rows whole 1) apart_is from) in (
       whole,
       record {
         all_variables = all_numbers start chosen.xs flow.ys flow.numbers;
@@ -136,8 +112,7 @@ pair_ceiling e start g l t is goal_is bound = record { reached = reached; least 
         let cut = test.0 (inr (subst (λ k. (base +ℤ pos (most k gains)) <ℤ pos 0) (sym back) lt)) in
         omega (arith, bound.greatest (t + 1) (omega (arith, le)) cut)
         in
-        let point = cheap_point e start best.0 t is one best.1 (not_below (base +ℤ pos (most t gains)) beyond) in
-        (
+        let point = cheap_point e start best.0 t is one best.1 (not_below (base +ℤ pos (most t gains)) beyond) in (
           point.0,
           1,
           subst (λ own. IsPointOf own [] point.0 1) same point.1,
@@ -154,7 +129,7 @@ pair_ceiling e start g l t is goal_is bound = record { reached = reached; least 
         elim ((exact e start [] (1 ∷ []) best.0 t is (no_limits_are e start.goal) one_each bound.within best.1).1 bound.cut) [
           | inl none ↦ omega (arith, none, all)
           | inr lt ↦ no_cheap_point e start [] (1 ∷ []) best.0 (length e.poll.ballots) whole den is (no_limits_are e start.goal) one_each best.1 other (omega arith)
-              (subst (λ k. (base +ℤ pos (most k gains)) <ℤ pos 0) back lt) here (all_ballots e start whole den is other here)
+              (subst (λ k. (base +ℤ pos (most k gains)) <ℤ pos 0) back lt) here (all_ballots e start [] whole den is here)
         ]
 
     reached : IsAffordable e (node_of start []) t ⊎ (HasNoNodePoint e (node_of start []) × (t ≡ length e.poll.ballots + 1))

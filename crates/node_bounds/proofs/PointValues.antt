@@ -1,6 +1,6 @@
 -- What the kept rows of a node's program bring at points, with their multipliers.
-use Rattle.std.proofs.Common.{◌≡◌, ◌⊎◌, ℕ, zero, suc, ◌+◌, ◌-◌, ◌*◌, ◌<◌, ◌≤◌, List, [], ◌∷◌, ◌++◌, length, map, take, drop, replicate, refl, sym, ap, subst, ◌∙◌, inl, inr, arith, All}
-use Rattle.std.specs.Prelude.{ℤ, pos, ◌+ℤ◌, ◌-ℤ◌, ◌*ℤ◌, ◌≤ℤ◌, ◌<ℤ◌}
+use Rattle.std.proofs.Common.{◌≡◌, ◌⊎◌, ℕ, zero, suc, ◌+◌, ◌*◌, ◌<◌, List, [], ◌∷◌, ◌++◌, length, map, take, drop, replicate, refl, sym, ap, subst, ◌∙◌, inl, inr, arith, All}
+use Rattle.std.specs.Prelude.{ℤ, pos, ◌+ℤ◌, ◌-ℤ◌, ◌*ℤ◌, ◌≤ℤ◌}
 use Rattle.std.proofs.Math.IntN.{negsuc}
 use Rattle.std.proofs.Math.Seq.{drop-append_seam}
 use Rattle.std.proofs.lemmas.Int.{ints}
@@ -17,10 +17,11 @@ use Rattle.goal_rows.specs.declared.parts.Ground.{Ground}
 use Rattle.goal_rows.proofs.SuffixRows.{all_back}
 use Rattle.dual_bound.specs.Weighing.{base_by, cost_by, gain_by, times_all}
 use Rattle.dual_bound.specs.WeighingParts.{gains_by}
-use Rattle.node_bounds.proofs.RestRows.{AreWithin, IsMetAt, classes_met, classes_within}
-use Rattle.node_bounds.proofs.RowValues.{AreCounted, AreNumbersOf, arcs_worth, classes_worth, key_worth, kept_value, rows_kept}
-use Rattle.node_bounds.proofs.TakenGains.{AreGaining, AreTaken, gained}
-use Rattle.node_bounds.proofs.Worths.{AreWorths, IsCutOff, IsMadeFlow}
+use Rattle.node_bounds.proofs.RestRows.{AreWithin, IsMetAt, classes_met}
+use Rattle.node_bounds.proofs.RowValues.{AreCounted, AreNumbersOf, key_worth, kept_value, rows_kept}
+use Rattle.node_bounds.proofs.TakenGains.{AreGaining, gained}
+use Rattle.node_bounds.proofs.SideBySide.{one_time}
+use Rattle.node_bounds.proofs.Worths.{AreWorths, IsCutOff}
 
 -- ---- the numbers of a point
 
@@ -192,12 +193,8 @@ taken_bring start limits ls xs best count long worths gaining =
     let arcs = flow.brings in
     let both = with_extra (λ c. key_worth start limits ls c.0) worths.extra xs start.classes long in
     let exact = gain_exact (λ c. key_worth start limits ls c.0 +ℤ worths.extra) best (cost_by start limits ls) xs start.classes (λ c. worths.keys c.0) gaining in
-    let once : pos 1 *ℤ base_by start limits ls ≡ base_by start limits ls = times_one (base_by start limits ls) in
+    let once : pos 1 *ℤ base_by start limits ls ≡ base_by start limits ls = one_time (base_by start limits ls) in
     omega (arith, ints, value, arcs, both, exact, once)
-  where
-    times_one : (z : ℤ) → pos 1 *ℤ z ≡ z
-    times_one (pos n) = omega (arith, ints)
-    times_one (negsuc n) = omega (arith, ints)
 
 -- of each class at most its count, by its gain
 pub within_gains : (best : ℤ) (cost : ℕ → ℤ) (d : ℕ) (cs : List (ℕ × ℕ)) (xs : List ℕ) → AreWithin d cs xs → AreWithin d (gains_by best cost cs) xs

@@ -1,6 +1,6 @@
 -- The rows of a program that aren't kept: those of the classes, and those of the flow.
 use Rattle.std.proofs.Common.{◌≡◌, ℕ, zero, suc, ◌+◌, ◌-◌, ◌*◌, ◌<◌, ◌≤◌, List, [], ◌∷◌, ◌++◌, length, get_or, map, refl, sym, ap, subst, ◌∙◌, inl, inr, arith, All}
-use Rattle.std.specs.Prelude.{ℤ, pos, ◌+ℤ◌, ◌-ℤ◌, ◌*ℤ◌, ◌≤ℤ◌, ◌==◌}
+use Rattle.std.specs.Prelude.{pos, ◌-ℤ◌, ◌≤ℤ◌, ◌==◌}
 use Rattle.std.specs.List.{range_with_len}
 use Rattle.std.proofs.lemmas.Bool.{cases_lt}
 use Rattle.std.proofs.lemmas.Int.{ints}
@@ -10,12 +10,11 @@ use Rattle.mov_base.specs.Sums.{add_up}
 use Rattle.row_program.specs.Points.{row_value}
 use Rattle.row_program.specs.declared.program.Row.{Row}
 use Rattle.sig_graph.specs.Flows.{IsFlow, flow_in, flow_out}
-use Rattle.sig_graph.specs.Paths.{arc_total, arcs_of}
+use Rattle.sig_graph.specs.Paths.{arcs_of}
 use Rattle.sig_graph.specs.Rows.{one_where}
 use Rattle.sig_graph.proofs.ArcNumbers.{length-arcs_of}
 use Rattle.goal_rows.specs.Programs.{class_row, class_rows_of, flow_weighings, row_by, weights_by}
 use Rattle.goal_rows.specs.declared.goals.Goal.TheVariants.{Suffix}
-use Rattle.dual_bound.specs.Weighing.{times_all}
 use Rattle.node_bounds.proofs.ArcSums.{leaving_counts, through_counts}
 use Rattle.node_bounds.proofs.RowValues.{AreNumbers, counting_value}
 use Rattle.node_bounds.proofs.SideBySide.{times_none, times_ones}

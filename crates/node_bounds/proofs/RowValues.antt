@@ -1,12 +1,12 @@
 -- The values of a program's rows at whole numbers over a denominator, and of kept rows with their multipliers.
-use Rattle.std.proofs.Common.{◌≡◌, ℕ, zero, suc, ◌+◌, ◌<◌, ◌≤◌, List, [], ◌∷◌, ◌++◌, Bool, true, false, length, get_or, map, take, drop, refl, sym, ap, subst, ◌∙◌, inl, inr, arith}
-use Rattle.std.specs.Prelude.{ℤ, pos, ◌+ℤ◌, ◌-ℤ◌, ◌*ℤ◌, ◌≤ℤ◌, filter, if◌then◌else◌}
+use Rattle.std.proofs.Common.{◌≡◌, ℕ, zero, suc, ◌+◌, ◌≤◌, List, [], ◌∷◌, ◌++◌, Bool, false, length, get_or, map, take, drop, refl, sym, ap, subst, ◌∙◌, inl, inr, arith}
+use Rattle.std.specs.Prelude.{ℤ, pos, ◌+ℤ◌, ◌*ℤ◌, filter, if◌then◌else◌}
 use Rattle.std.specs.List.{range_with_len, zip}
 use Rattle.std.proofs.Math.IntN.{negsuc}
 use Rattle.std.proofs.lemmas.Bool.{cases_Bool}
 use Rattle.std.proofs.lemmas.Bool.Decides.{nat_tests}
 use Rattle.std.proofs.lemmas.Int.{ints}
-use Rattle.std.proofs.lemmas.List.{append_assoc, length-append, length-drop, length-map, length-take}
+use Rattle.std.proofs.lemmas.List.{append_assoc, length-append, length-map}
 use Rattle.mov_base.specs.Sums.{sum_z}
 use Rattle.mov_base.proofs.Signed.{distrib}
 use Rattle.row_program.specs.Points.{row_value, term_value}
@@ -18,7 +18,7 @@ use Rattle.goal_rows.specs.Suffixes.{those}
 use Rattle.goal_rows.specs.declared.parts.Ground.{Ground}
 use Rattle.dual_bound.specs.Weighing.{base_by, limit_start, of_limits, of_rows, times_all}
 use Rattle.dual_bound.proofs.Pairwise.{zip_none}
-use Rattle.node_bounds.proofs.SideBySide.{factors_swap, mixed, times_append, times_both, times_none, times_scaled}
+use Rattle.node_bounds.proofs.SideBySide.{factors_swap, mixed, times_append, times_both, times_none, times_scaled, turned}
 
 -- ---- one row
 
@@ -32,10 +32,6 @@ left_out value make test (v ∷ vs) none =
       | inl on ↦ rw on (ap (λ z. value (make v) +ℤ z) rest)
       | inr off ↦ let z = none v off in rw off (omega (arith, ints, z, rest))
     ]
-
-turned : (w : ℤ) (x : ℕ) → w *ℤ pos x ≡ pos x *ℤ w
-turned (pos n) x = omega (arith, ints)
-turned (negsuc n) x = omega (arith, ints)
 
 -- the sum over numbered places is that over the lists side by side
 by_place : (value : ℕ → ℤ) (a : ℕ) (xs : List ℕ) (ws : List ℤ) → length ws ≤ length xs

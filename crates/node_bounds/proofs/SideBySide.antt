@@ -1,13 +1,12 @@
 -- Sums over two lists side by side.
-use Rattle.std.proofs.Common.{◌≡◌, ℕ, zero, suc, ◌+◌, ◌*◌, ◌<◌, ◌≤◌, List, [], ◌∷◌, ◌++◌, length, get_or, map, refl, sym, ap, ◌∙◌, arith}
-use Rattle.std.specs.Prelude.{ℤ, pos, ◌+ℤ◌, ◌-ℤ◌, ◌*ℤ◌, ◌≤ℤ◌}
+use Rattle.std.proofs.Common.{◌≡◌, ℕ, suc, ◌*◌, List, [], ◌∷◌, ◌++◌, length, map, refl, sym, ap, ◌∙◌, arith}
+use Rattle.std.specs.Prelude.{ℤ, pos, ◌+ℤ◌, ◌-ℤ◌, ◌*ℤ◌}
 use Rattle.std.specs.List.{zip}
 use Rattle.std.proofs.Math.IntN.{negsuc}
 use Rattle.std.proofs.lemmas.Int.{ints}
 use Rattle.mov_base.specs.Sums.{add_up, sum_z}
 use Rattle.mov_base.proofs.Signed.{distrib}
 use Rattle.dual_bound.specs.Weighing.{times_all}
-use Rattle.dual_bound.proofs.Pairwise.{zip_none}
 
 -- numbers times what is made of the items beside them
 abbrev pub mixed : {X : Type 0} → (X → ℤ) → List ℕ → List X → ℤ
@@ -34,6 +33,19 @@ factors_swap x l (negsuc n) =
     ∙ minus_times x (l * suc n)
     ∙ ap (λ k. pos 0 -ℤ pos k) same
     ∙ sym (ap (λ z. pos l *ℤ (pos x *ℤ z)) below ∙ ap (λ z. pos l *ℤ z) (minus_times x (suc n)) ∙ minus_times l (x * suc n))
+
+-- a factor on the other side
+pub turned : (w : ℤ) (x : ℕ) → w *ℤ pos x ≡ pos x *ℤ w
+turned (pos n) x = omega (arith, ints)
+turned (negsuc n) x = omega (arith, ints)
+
+pub one_time : (z : ℤ) → pos 1 *ℤ z ≡ z
+one_time (pos n) = omega (arith, ints)
+one_time (negsuc n) = omega (arith, ints)
+
+pub none_times : (z : ℤ) → pos 0 *ℤ z ≡ pos 0
+none_times (pos n) = omega (arith, ints)
+none_times (negsuc n) = omega (arith, ints)
 
 pub times_none : {X : Type 0} (xs : List ℕ) (cs : List X) → times_all xs (map (λ c. pos 0) cs) ≡ pos 0
 times_none [] cs = refl

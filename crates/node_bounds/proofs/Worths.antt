@@ -1,9 +1,8 @@
 -- What replaced ballots and the arcs of new ones are worth, goal by goal: together they bring the gains by keys.
-use Rattle.std.proofs.Common.{◌≡◌, ◌⊎◌, ℕ, zero, suc, ◌+◌, ◌-◌, ◌*◌, ◌<◌, ◌≤◌, List, [], ◌∷◌, ◌++◌, length, get_or, map, replicate, refl, sym, ap, subst, ◌∙◌, inl, inr, arith, All}
-use Rattle.std.specs.Prelude.{ℤ, pos, ◌+ℤ◌, ◌-ℤ◌, ◌*ℤ◌, ◌≤ℤ◌, ◌<ℤ◌, unsigned_abs, slice_index}
+use Rattle.std.proofs.Common.{◌≡◌, ◌⊎◌, ℕ, zero, suc, ◌+◌, ◌-◌, ◌*◌, ◌<◌, ◌≤◌, List, [], ◌∷◌, ◌++◌, length, map, replicate, refl, sym, ap, subst, ◌∙◌, inl, inr, arith, All}
+use Rattle.std.specs.Prelude.{ℤ, pos, ◌+ℤ◌, ◌-ℤ◌, ◌*ℤ◌, ◌≤ℤ◌, unsigned_abs, slice_index}
 use Rattle.std.specs.Int.{int_max}
 use Rattle.std.proofs.Math.IntN.{negsuc}
-use Rattle.std.proofs.lemmas.Bool.{cases_lt}
 use Rattle.std.proofs.lemmas.Int.{int_max_is, ints}
 use Rattle.std.proofs.lemmas.List.{length-map, length-replicate, length-take}
 use Rattle.std.proofs.lemmas.List.Elements.{All-cons}
@@ -14,7 +13,7 @@ use Rattle.row_program.specs.declared.program.Row.{Row}
 use Rattle.signature_class.specs.declared.limits.TheConstants.{MOST_PLACES}
 use Rattle.sig_graph.specs.Bests.{IsBetter}
 use Rattle.sig_graph.specs.Flows.{IsFlow}
-use Rattle.sig_graph.specs.Paths.{IsBest, IsPath, IsPathFrom, arcs_of, path_sum, weight_at}
+use Rattle.sig_graph.specs.Paths.{IsBest, IsPath, arcs_of, path_sum, weight_at}
 use Rattle.sig_graph.specs.Walks.{flow_of, uses_of}
 use Rattle.sig_graph.proofs.BestPaths.{IsBestVia, via_all, via_more, via_none}
 use Rattle.sig_graph.proofs.FlowSums.{flow_sum-le}
@@ -28,7 +27,7 @@ use Rattle.goal_rows.specs.declared.goals.Goal.{Goal}
 use Rattle.goal_rows.specs.declared.goals.Goal.TheVariants.{Root, Suffix, Pair, Cover}
 use Rattle.goal_rows.specs.declared.parts.Ground.{Ground}
 use Rattle.goal_rows.proofs.GroundSizes.{lone_small, suffix_few}
-use Rattle.dual_bound.specs.Weighing.{IsBestNew, all_arcs, cost_by, gain_by, gain_over, is_arc, is_from, limits_bring, of_limits, of_rows, over_weight, rows_bring, times_all}
+use Rattle.dual_bound.specs.Weighing.{IsBestNew, all_arcs, cost_by, gain_by, gain_over, is_arc, limits_bring, of_limits, of_rows, over_weight, rows_bring, times_all}
 use Rattle.dual_bound.proofs.Pairwise.{zip_none}
 use Rattle.node_bounds.proofs.KeyWorths.{cover_key_worth, limits_by_arc, limits_by_key, pair_key_worth, suffix_arc_worth, suffix_key_worth}
 use Rattle.node_bounds.proofs.RestRows.{IsMetAt, flow_meets_rows, rows_make_flow}
@@ -109,9 +108,9 @@ best_flow start suffix limits ls best xs long greatest =
       numbers = numbers;
       met = flow_meets_rows suffix start.classes xs (flow_of m paths) 1 numbers flow;
       brings = suffix_arcs start suffix limits ls (flow_of m paths)
-      ∙ flow_sum-of m (all_arcs here limits ls m) paths are
-      ∙ sum_same (λ path. path_sum m (all_arcs here limits ls m) 0 path) path n
-      ∙ ap (λ z. pos n *ℤ z) greatest.reached.2;
+          ∙ flow_sum-of m (all_arcs here limits ls m) paths are
+          ∙ sum_same (λ path. path_sum m (all_arcs here limits ls m) 0 path) path n
+          ∙ ap (λ z. pos n *ℤ z) greatest.reached.2;
     }
 
 suffix_worths : (start : Ground) (suffix : List ℕ) (limits : List Limit) (ls : List ℕ) (best : ℤ) → length suffix ≤ MOST_PLACES

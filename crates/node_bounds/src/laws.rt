@@ -68,7 +68,18 @@ pub fn no_ceiling_is_below_a_cut_above_it()
         Cuts e (node_of start limits) ls t → IsCeiling e (with_limit (node_of start limits) limit) v → t ≤ v }
 {}
 
-/// A node has one ceiling at most.
+/// A node has one ceiling at most, and that is at most one more than there are ballots.
 pub fn a_ceiling_is_one_number()
-    ensures { (e : Election) (node : Node) (t other : ℕ) → IsCeiling e node t → IsCeiling e node other → t ≡ other }
+    ensures one { (e : Election) (node : Node) (t other : ℕ) →
+        IsCeiling e node t → IsCeiling e node other → t ≡ other }
+    ensures within { (e : Election) (start : AGround) (limits : List ALimit) (t : ℕ) →
+        IsGroundIn e start → IsCeiling e (node_of start limits) t → t ≤ length e.poll.ballots + 1 }
+{}
+
+/// Multipliers that cut a node at its ceiling have the ceiling as their bound.
+pub fn a_cut_at_the_ceiling_is_the_bound()
+    ensures { (e : Election) (start : AGround) (limits : List ALimit) (ls : List ℕ) (t : ℕ) →
+        IsGroundIn e start → AreLimits e (node_of start limits) → length ls ≡ length start.sums + length limits →
+        IsCeiling e (node_of start limits) t → Cuts e (node_of start limits) ls t →
+        IsBound e (node_of start limits) ls t }
 {}
