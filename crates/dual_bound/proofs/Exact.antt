@@ -288,7 +288,7 @@ root_exact e start limits ls best t values features = (into, out)
 
 -- ---- every goal
 
-exact_by : (e : Election) (start : Ground) (goal : Goal) (limits : List Limit) (ls : List ℕ) (best : ℤ) (t : ℕ) → IsElection e → IsReached e goal
+pub exact_by : (e : Election) (start : Ground) (goal : Goal) (limits : List Limit) (ls : List ℕ) (best : ℤ) (t : ℕ) → IsElection e → IsReached e goal
     → IsGroundOf e (with_goal start goal) → All (λ limit. IsFeatureOf e goal limit.feature) limits → length ls ≡ length start.sums + length limits
     → t ≤ start.ballots + 1 → IsBestNew (with_goal start goal) limits ls best → ExactTest e (with_goal start goal) limits ls best t
 exact_by e start Root limits ls best t is reached values features long within greatest = root_exact e start limits ls best t values features

@@ -1,0 +1,14 @@
+pub mod SideBySide
+pub mod RowValues
+pub mod HeldPlaces
+pub mod KeyWorths
+pub mod ArcSums
+pub mod RestRows
+pub mod TakenGains
+pub mod Worths
+pub mod PointValues
+pub mod CeilingCuts
+pub mod CeilingSizes
+pub mod Inheritance
+pub mod PairBounds
+pub mod OneCeiling
