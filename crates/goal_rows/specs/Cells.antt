@@ -37,7 +37,7 @@ abbrev pub high_end : List Limit → Variable → ℕ
 high_end [] v = v.end
 high_end (limit ∷ limits) v =
     if limit.at_most then
-      (if same_feature v.feature limit.feature then min limit.value (high_end limits v) else high_end limits v)
+    (if same_feature v.feature limit.feature then min limit.value (high_end limits v) else high_end limits v)
     else high_end limits v
 
 -- suffixes and covers have features

@@ -146,7 +146,10 @@ fn suffixes_of_a_runoff(rt: HostRuntime) -> Result<(), Fail> {
         is_suffix(&rt, rt.alloc(), &race, line)?;
     }
     let goal = suffix(rt.alloc(), "CBA")?;
-    for (ballots, held) in [("3: 5 A, 4 BC, 2 CB, 1", false), ("3: 6 A, 3 BC, 2 CB, 1", true)] {
+    for (ballots, held) in [
+        ("3: 5 A, 4 BC, 2 CB, 1", false),
+        ("3: 6 A, 3 BC, 2 CB, 1", true),
+    ] {
         assert_eq!(rt; holds_on(rt.alloc(), &race, &goal, ballots)?, held);
     }
     Ok(())
@@ -159,7 +162,10 @@ fn covers_of_a_cycle(rt: HostRuntime) -> Result<(), Fail> {
     let goal = Goal::Cover(0);
     let text = goal_text(rt.alloc(), &race, &goal)?;
     assert_eq!(rt; text.as_str(), "2 None [1, -1] 3 1 1:1 7:1 5:1");
-    for (ballots, held) in [("3: 1 ABC, 1 BCA, 1 CAB", false), ("3: 1 ABC, 1 A, 1 CAB", true)] {
+    for (ballots, held) in [
+        ("3: 1 ABC, 1 BCA, 1 CAB", false),
+        ("3: 1 ABC, 1 A, 1 CAB", true),
+    ] {
         assert_eq!(rt; holds_on(rt.alloc(), &race, &goal, ballots)?, held);
     }
     Ok(())

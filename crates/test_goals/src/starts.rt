@@ -69,7 +69,12 @@ fn starts_of_small_contests(rt: HostRuntime) -> Result<(), Fail> {
     for line in RUNOFFS.lines() {
         begins(&rt, rt.alloc(), Rule::Irv, line)?;
     }
-    begins(&rt, rt.alloc(), Rule::Condorcet, "3: 1 ABC, 1 BCA, 1 CAB; A 2A")?;
+    begins(
+        &rt,
+        rt.alloc(),
+        Rule::Condorcet,
+        "3: 1 ABC, 1 BCA, 1 CAB; A 2A",
+    )?;
     begins(&rt, rt.alloc(), Rule::Plurality, "2: 5 A, 2 B; BA 1B 2B")?;
     begins(&rt, rt.alloc(), Rule::Borda, "3: 3 ABC, 2 BCA; AB 4A")
 }
