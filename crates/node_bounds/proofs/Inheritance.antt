@@ -101,9 +101,9 @@ at_of f (x ∷ xs) zero d a lt = refl
 at_of f (x ∷ xs) (suc k) d a lt = at_of f xs k d a (omega (arith, lt))
 
 -- the rows of the one are those of the other, behind new ones
-record IsBehind (e : Election) (goal kid : Goal) : Type 0 where
-  new : List (List ℕ → ℤ)
-  rows : rows_of e kid ≡ new ++ rows_of e goal
+pub record IsBehind (e : Election) (goal kid : Goal) : Type 0 where
+  pub new : List (List ℕ → ℤ)
+  pub rows : rows_of e kid ≡ new ++ rows_of e goal
 
 some_kids : (t : Bool) (kids others : List Goal) → cond t (Some others) None ≡ Some kids → others ≡ kids
 some_kids true kids others e = cc
@@ -119,7 +119,7 @@ longer e suffix kids place kid are within is =
     let here = subst (λ ks. place < length ks) (sym are) within in
     (get_or zs place 0, sym (at_of (λ z. Suffix (z ∷ suffix)) zs place kid 0 here) ∙ ap (λ ks. get_or ks place kid) are ∙ is)
 
-behind : (e : Election) (goal : Goal) (place : ℕ) (kid : Goal) → IsKid e goal place kid → IsBehind e goal kid
+pub behind : (e : Election) (goal : Goal) (place : ℕ) (kid : Goal) → IsKid e goal place kid → IsBehind e goal kid
 behind e Root place kid is = record { new = rows_of e kid; rows = sym (append-nil (rows_of e kid)) }
 behind e (Suffix suffix) place kid is =
     let z = longer e suffix is.0 place kid (some_kids (nat_lt (length suffix) e.poll.c) is.0 (longer_suffixes e.poll.c suffix) is.1) is.2 is.3 in

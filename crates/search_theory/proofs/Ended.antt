@@ -16,9 +16,9 @@ use Rattle.search_theory.specs.Branchings.{Branching, IsFloor, IsLeastOf, IsMidd
 use Rattle.search_theory.specs.Ends.{AllFrom, AtPoint, Budget, Depth, Ending, EndsAtPoint, GoesOn, IsAtPoint, IsEnd, IsFirst, IsFirstOf, Met, Nothing, Problem, cuts_in, depth_of, growth_of}
 use Rattle.search_theory.specs.Laws.{AreLaws}
 use Rattle.search_theory.specs.Leaves.{AreHeld, AreMade, ByBranch, ByCover, Growth, IsFirstLeaf, IsHeld, IsKept, IsLeaf, IsUnderWay, Leaf, MayGrow, growth_tree, kid_nodes, lowest}
-use Rattle.search_theory.specs.Spots.{Hung, cover_list, grown, has_cover, root_spot}
+use Rattle.search_theory.specs.Spots.{Hung, cover_list, grown, has_cover, put_at, root_spot}
 use Rattle.search_theory.specs.Trees.{HasAnchor, IsNeeded, IsTight, IsTightCut, needed_words, tight_words, top_of}
-use Rattle.search_theory.proofs.Growing.{Everywhere-map, Hanging, length-hung_of, put_at, size-grown}
+use Rattle.search_theory.proofs.Growing.{Everywhere-map, Hanging, length-hung_of, size-grown}
 use Rattle.search_theory.proofs.Proven.{bound_here, proves}
 use Rattle.search_theory.proofs.Turns.{length-held, limits_of, lowest-first, place-first}
 

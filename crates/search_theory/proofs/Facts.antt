@@ -2,12 +2,14 @@
 use Rattle.std.proofs.Common.{◌≡◌, ℕ, zero, suc, ◌+◌, ◌*◌, ◌<◌, ◌≤◌, ◌∙◌, ◌⊎◌, List, [], ◌∷◌, Some, length, get_or, refl, sym, ap, subst, inl, inr, arith}
 use Rattle.std.proofs.Math.Nat.{mul-le-mul_right}
 use Rattle.std.proofs.lemmas.Bool.{cases_lt}
-use Rattle.std.proofs.lemmas.List.{ext_get_or}
+use Rattle.std.proofs.lemmas.List.{ext_get_or, length-map}
+use Rattle.mov_base.specs.Sums.{sum_z}
 use Rattle.ballot_form.specs.Alterations.{IsAlteration, after}
 use Rattle.row_program.specs.Points.{IsLexAtMost}
 use Rattle.bound_tree.specs.Plain.{Plain}
 use Rattle.goal_rows.specs.Elections.{Election, Node}
-use Rattle.goal_rows.specs.Goals.{AreRoots, Holds, IsComplete, IsElection, IsReached}
+use Rattle.goal_rows.specs.Goals.{AreRoots, Holds, IsComplete, IsElection, IsReached, rows_of}
+use Rattle.goal_rows.specs.Races.{IsGroundIn}
 use Rattle.goal_rows.specs.Nodes.{AreLimits, without_limits}
 use Rattle.goal_rows.specs.declared.goals.Goal.{Goal}
 use Rattle.goal_rows.specs.declared.goals.Goal.TheVariants.{Root}
@@ -15,24 +17,13 @@ use Rattle.dual_bound.proofs.Sound.{cut_below, one_bound}
 use Rattle.dual_theory.proofs.Multiples.{cancel_nat}
 use Rattle.tree_proofs.specs.Proving.{Proves}
 use Rattle.tree_proofs.proofs.Refuted.{refuted}
-use Rattle.node_bounds.specs.Ceilings.{IsCeiling, IsNodePoint, node_cost}
+use Rattle.node_bounds.specs.Ceilings.{IsCeiling, ground_at, node_cost}
+use Rattle.node_bounds.proofs.CeilingCuts.{cut_within_ceiling}
+use Rattle.node_bounds.proofs.OneCeiling.{one_ceiling}
 use Rattle.search_theory.specs.Branchings.{IsLeastOf, IsWhole, Values}
 use Rattle.search_theory.specs.Ends.{IsKnown, Problem}
 use Rattle.search_theory.specs.Laws.{AreLaws, IsCutBySome}
 use Rattle.search_theory.proofs.Inherited.{inherits}
-
--- a ceiling is one number
-pub one_ceiling : (e : Election) (node : Node) (v w : ℕ) → IsCeiling e node v → IsCeiling e node w → v ≡ w
-one_ceiling e node v w a b = elim a.reached [
-  | inl one ↦ elim b.reached [
-    | inl two ↦ omega (arith, a.least w two, b.least v one)
-    | inr none ↦ absurd (none.0 one.0 one.1 one.2)
-  ]
-  | inr none ↦ elim b.reached [
-    | inl two ↦ absurd (none.0 two.0 two.1 two.2)
-    | inr other ↦ none.1 ∙ sym other.1
-  ]
-]
 
 -- what costs at most u wholes costs at most u
 at_most_whole : (a u d : ℕ) → 1 ≤ d → a * d ≤ u * d → a ≤ u
@@ -90,18 +81,29 @@ proved_at_most e tree t goal changes lawful proved ok complete holds = elim (cas
   | inr long ↦ long
 ]
 
+-- the ground of a goal that is reached
+ground_in : (e : Election) (goal : Goal) → IsElection e → IsReached e goal → IsGroundIn e (ground_at e goal)
+ground_in e goal election reached = record {
+  election = election;
+  reached = reached;
+  values = record { classes = refl; sums = refl; ballots = refl; lone = refl };
+}
+
 -- no node is cut beyond its ceiling
-abbrev pub StaysBelow : Election → Type 0
-StaysBelow e = (node : Node) (b v : ℕ) → IsReached e node.goal → AreLimits e node → IsCutBySome e b node → IsCeiling e node v → b ≤ v
+below : (e : Election) (node : Node) (b v : ℕ) → IsElection e → IsReached e node.goal → AreLimits e node → IsCutBySome e b node → IsCeiling e node v → b ≤ v
+below e node b v election reached limits cut ceiling =
+    let rows = length-map (rows_of e node.goal) (λ weight. sum_z weight e.poll.ballots) in
+    cut_within_ceiling e (ground_at e node.goal) node.limits cut.0 b v (ground_in e node.goal election reached) limits (omega (arith, cut.1, rows)) cut.2.within
+    (cut_below e node cut.0 b b (omega arith) cut.2.cut) ceiling
 
 -- all that a search rests on
-pub laws_of : (p : Problem) → IsElection p.election → IsKnown p → StaysBelow p.election → AreLaws p
-laws_of p election known below =
+pub laws_of : (p : Problem) → IsElection p.election → IsKnown p → AreLaws p
+laws_of p election known =
     let e = p.election in
     record {
       cuts = λ node ms b t bound le. cut_below e node ms b t le bound.cut;
       unique = λ node ms b c one two. one_bound e node ms b c one two;
-      below = below;
+      below = λ node b v reached limits cut ceiling. below e node b v election reached limits cut ceiling;
       inherits = λ node ms b way reached may plain count bound. inherits e node ms b way may plain count bound;
       one_ceiling = one_ceiling e;
       one_least = one_least e;

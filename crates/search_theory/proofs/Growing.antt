@@ -6,13 +6,7 @@ use Rattle.bound_tree.specs.Nodes.{size, size_all, cut_count, cut_count_all}
 use Rattle.bound_tree.specs.Plain.{Plain, Kids, Split, Branch, Cut, None, More}
 use Rattle.goal_rows.specs.Elections.{Election}
 use Rattle.goal_rows.specs.Nodes.{high_half, low_half}
-use Rattle.search_theory.specs.Spots.{Everywhere, EveryKid, Hung, Spot, Words, below, cover_list, grown, grown_in, hung_among, hung_of, spots_below}
-
--- the list with f of its i-th item in the item's place
-abbrev pub put_at : {A : Type 0} → ℕ → (A → List A) → List A → List A
-put_at i f [] = []
-put_at zero f (x ∷ xs) = f x ++ xs
-put_at (suc i) f (x ∷ xs) = x ∷ put_at i f xs
+use Rattle.search_theory.specs.Spots.{Everywhere, EveryKid, Hung, Spot, Words, below, cover_list, grown, grown_in, hung_among, hung_of, put_at, spots_below}
 
 -- the i-th item is so
 abbrev pub AtPlace : {A : Type 0} → (A → Type 0) → ℕ → List A → Type 0

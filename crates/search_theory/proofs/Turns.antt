@@ -15,9 +15,9 @@ use Rattle.node_bounds.specs.Ceilings.{IsCeiling}
 use Rattle.search_theory.specs.Ends.{Problem, cuts_in}
 use Rattle.search_theory.specs.Laws.{AreLaws, EachOf, IsCutBySome}
 use Rattle.search_theory.specs.Leaves.{AreHeld, AreMade, ByBranch, ByCover, Growth, HasRanges, IsFirstLeaf, IsHeld, IsLeaf, IsMade, IsUnderWay, Leaf, MayGrow, growth_tree, kid_nodes, lowest}
-use Rattle.search_theory.specs.Spots.{EveryKid, Everywhere, Hung, Spot, below, cover_list, grown, has_cover, hung_among, hung_of, path_of, root_spot, spots_below}
+use Rattle.search_theory.specs.Spots.{EveryKid, Everywhere, Hung, Spot, below, cover_list, grown, has_cover, hung_among, hung_of, path_of, put_at, root_spot, spots_below}
 use Rattle.search_theory.specs.Trees.{HasAnchor, IsInReach, IsNeeded, needed_words, top_of}
-use Rattle.search_theory.proofs.Growing.{AtPlace, Everywhere-grown, Everywhere-map, Hanging, hung_of-grown, put_at}
+use Rattle.search_theory.proofs.Growing.{AtPlace, Everywhere-grown, Everywhere-map, Hanging, hung_of-grown}
 
 pub anchor-map : (e : Election) (spot : Spot) (P Q : ℕ → Type 0) → ((v : ℕ) → P v → Q v) → HasAnchor e spot P → HasAnchor e spot Q
 anchor-map e spot P Q more h = (h.0, h.1, h.2, h.3, more h.2 h.4)

@@ -1,4 +1,5 @@
 -- Trees of bounds below a node: their cuts and where these hang, what holds everywhere in them, and how they grow.
+use Rattle.std.proofs.Common.{zero, suc}
 use Rattle.std.specs.Prelude.{ℕ, ◌-◌, List, [], ◌∷◌, ◌++◌, Bool, cond, ltb, map}
 use Rattle.std.specs.Option.{is_some}
 use Rattle.row_program.specs.declared.Feature.{Feature}
@@ -96,3 +97,9 @@ abbrev mutual
   grown_in i new (trees.More kid kids) =
       cond (ltb i (cut_count kid)) (trees.More (grown i new kid) kids)
       (trees.More kid (grown_in (i - cut_count kid) new kids))
+
+-- the list with what f gives of its item number i, from 0, in the item's place
+abbrev pub put_at : {A : Type 0} → ℕ → (A → List A) → List A → List A
+put_at i f [] = []
+put_at zero f (x ∷ xs) = f x ++ xs
+put_at (suc i) f (x ∷ xs) = x ∷ put_at i f xs
