@@ -10,14 +10,13 @@ use Rattle.bound_tree.specs.declared.bound.TheConstants.{MOST_DEPTH}
 use Rattle.goal_rows.specs.Elections.{Election, Node}
 use Rattle.goal_rows.specs.Nodes.{IsFeatureOf, without_limits}
 use Rattle.goal_rows.specs.declared.goals.Goal.TheVariants.{Root}
-use Rattle.dual_bound.specs.CutTest.{IsBound}
 use Rattle.node_bounds.specs.Ceilings.{IsCeiling, node_cost}
 use Rattle.search_theory.specs.Branchings.{Branching, IsFloor, IsLeastOf, IsMiddle, IsSolid, IsWhole, Values, is_pair}
-use Rattle.search_theory.specs.Ends.{AllFrom, AtPoint, Budget, Depth, Ending, EndsAtPoint, GoesOn, IsAtPoint, IsEnd, IsFirst, IsFirstOf, Met, Nothing, Problem, cuts_in, depth_of, growth_of}
+use Rattle.search_theory.specs.Ends.{AllFrom, AtPoint, Budget, Depth, Ending, GoesOn, IsAtPoint, IsEnd, IsFirst, IsFirstOf, Met, Nothing, Problem, cuts_in, growth_of}
 use Rattle.search_theory.specs.Laws.{AreLaws}
 use Rattle.search_theory.specs.Leaves.{AreHeld, AreMade, ByBranch, ByCover, Growth, IsFirstLeaf, IsHeld, IsKept, IsLeaf, IsUnderWay, Leaf, MayGrow, growth_tree, kid_nodes, lowest}
 use Rattle.search_theory.specs.Spots.{Hung, cover_list, grown, has_cover, put_at, root_spot}
-use Rattle.search_theory.specs.Trees.{HasAnchor, IsNeeded, IsTight, IsTightCut, needed_words, tight_words, top_of}
+use Rattle.search_theory.specs.Trees.{IsTight, IsTightCut, needed_words, tight_words, top_of}
 use Rattle.search_theory.proofs.Growing.{Everywhere-map, Hanging, length-hung_of, size-grown}
 use Rattle.search_theory.proofs.Proven.{bound_here, proves}
 use Rattle.search_theory.proofs.Turns.{length-held, limits_of, lowest-first, place-first}

@@ -1,5 +1,5 @@
 -- What a node is split into has multipliers of its bound: the node's own, with zeros for what is new.
-use Rattle.std.proofs.Common.{◌≡◌, ℕ, zero, suc, ◌+◌, ◌-◌, ◌<◌, ◌≤◌, ◌∙◌, ◌↔◌, true, List, [], ◌∷◌, ◌++◌, Some, length, length-append, get_or, map, replicate, refl, sym, ap, subst, arith}
+use Rattle.std.proofs.Common.{◌≡◌, ℕ, zero, suc, ◌-◌, ◌<◌, ◌∙◌, ◌↔◌, true, List, [], ◌∷◌, ◌++◌, Some, length, length-append, get_or, map, replicate, refl, sym, ap, subst, arith}
 use Rattle.std.proofs.lemmas.List.{length-map}
 use Rattle.row_program.specs.declared.Limit.{Limit}
 use Rattle.goal_rows.specs.Elections.{Election, Node}
@@ -68,6 +68,7 @@ kids_from e goal ms b count bound done (kid ∷ rest) covers =
     at_end : (done : List Goal) (kid : Goal) (rest : List Goal) (d : Goal) → get_or (done ++ kid ∷ rest) (length done) d ≡ kid
     at_end [] kid rest d = refl
     at_end (g ∷ done) kid rest d = at_end done kid rest d
+
     snoc : (done : List Goal) (kid : Goal) (rest : List Goal) → done ++ kid ∷ rest ≡ (done ++ kid ∷ []) ++ rest
     snoc [] kid rest = refl
     snoc (g ∷ done) kid rest = ap (λ l. g ∷ l) (snoc done kid rest)

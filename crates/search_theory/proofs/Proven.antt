@@ -1,11 +1,11 @@
 -- The tree of a search proves what its leaves have at least.
-use Rattle.std.proofs.Common.{◌≡◌, ℕ, ◌≤◌, ◌<◌, ◌∙◌, true, List, [], ◌∷◌, ◌++◌, Option, Some, None, length, get_or, refl, sym, ap, subst, zero, suc, arith}
+use Rattle.std.proofs.Common.{◌≡◌, ℕ, ◌≤◌, ◌∙◌, true, List, [], ◌∷◌, ◌++◌, Option, Some, None, length, refl, sym, ap, subst, arith}
 use Rattle.std.specs.Option.{is_some}
 use Rattle.std.specs.Prelude.{All}
 use Rattle.std.proofs.lemmas.Bool.{false≢true}
 use Rattle.std.proofs.lemmas.List.Elements.{All-head, All-tail}
 use Rattle.bound_tree.specs.Plain.{Plain, Kids, Split, Branch, Cut, None as NoKids, More}
-use Rattle.goal_rows.specs.Elections.{Election, Node}
+use Rattle.goal_rows.specs.Elections.{Election}
 use Rattle.goal_rows.specs.Goals.{IsReached, cover_of, kid_goals}
 use Rattle.goal_rows.specs.Nodes.{high_half, low_half, number_count, without_limits}
 use Rattle.goal_rows.specs.declared.goals.Goal.{Goal}
@@ -13,7 +13,6 @@ use Rattle.goal_rows.specs.declared.goals.Goal.TheVariants.{Root}
 use Rattle.dual_bound.specs.CutTest.{Cuts, IsBound}
 use Rattle.tree_proofs.specs.Proving.{ProveAll, Proves}
 use Rattle.tree_proofs.proofs.Ways.{cover_reached}
-use Rattle.search_theory.specs.Branchings.{Branching}
 use Rattle.search_theory.specs.Ends.{Problem, cuts_in}
 use Rattle.search_theory.specs.Laws.{AreLaws, EachOf}
 use Rattle.search_theory.specs.Leaves.{AreHeld, IsHeld, IsUnderWay, Leaf, lowest}

@@ -1,21 +1,17 @@
 -- One turn of a search keeps what is known of it.
-use Rattle.std.proofs.Common.{◌≡◌, ℕ, zero, suc, ◌+◌, ◌<◌, ◌≤◌, true, List, [], ◌∷◌, ◌++◌, map, length, length-append, refl, sym, ap, ◌∙◌, subst, inl, inr, arith}
-use Rattle.std.specs.Prelude.{slice_index_or}
+use Rattle.std.proofs.Common.{◌≡◌, ℕ, zero, suc, ◌<◌, ◌≤◌, true, List, [], ◌∷◌, ◌++◌, map, length, length-append, refl, sym, ap, ◌∙◌, subst, inl, inr, arith}
 use Rattle.std.proofs.lemmas.Bool.{false≢true}
 use Rattle.row_program.specs.declared.limits.TheConstants.{MOST_LIMITS}
 use Rattle.bound_tree.specs.Growth.{cuts_of}
 use Rattle.bound_tree.specs.Plain.{Plain}
 use Rattle.bound_tree.specs.declared.bound.TheConstants.{MOST_DEPTH}
 use Rattle.goal_rows.specs.Elections.{Election, Node}
-use Rattle.goal_rows.specs.Goals.{IsReached}
-use Rattle.goal_rows.specs.Nodes.{AreLimits, high_half, high_limit, low_half, low_limit, number_count, without_limits}
+use Rattle.goal_rows.specs.Nodes.{AreLimits, high_half, high_limit, low_half, low_limit, without_limits}
 use Rattle.goal_rows.specs.declared.goals.Goal.{Goal}
-use Rattle.dual_bound.specs.CutTest.{IsBound}
-use Rattle.node_bounds.specs.Ceilings.{IsCeiling}
 use Rattle.search_theory.specs.Ends.{Problem, cuts_in}
 use Rattle.search_theory.specs.Laws.{AreLaws, EachOf, IsCutBySome}
 use Rattle.search_theory.specs.Leaves.{AreHeld, AreMade, ByBranch, ByCover, Growth, HasRanges, IsFirstLeaf, IsHeld, IsLeaf, IsMade, IsUnderWay, Leaf, MayGrow, growth_tree, kid_nodes, lowest}
-use Rattle.search_theory.specs.Spots.{EveryKid, Everywhere, Hung, Spot, below, cover_list, grown, has_cover, hung_among, hung_of, path_of, put_at, root_spot, spots_below}
+use Rattle.search_theory.specs.Spots.{EveryKid, Everywhere, Hung, Spot, below, cover_list, grown, has_cover, hung_among, hung_of, put_at, root_spot, spots_below}
 use Rattle.search_theory.specs.Trees.{HasAnchor, IsInReach, IsNeeded, needed_words, top_of}
 use Rattle.search_theory.proofs.Growing.{AtPlace, Everywhere-grown, Everywhere-map, Hanging, hung_of-grown}
 

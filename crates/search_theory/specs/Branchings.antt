@@ -1,5 +1,5 @@
 -- Solid nodes, their least points, and where a node is branched.
-use Rattle.std.specs.Prelude.{◌≡◌, ◌⊎◌, ℕ, ◌+◌, ◌*◌, ◌/◌, ◌<◌, ◌≤◌, List, Bool, true, false, All, Contains, Option, Some, length, map, slice_get, slice_index}
+use Rattle.std.specs.Prelude.{◌≡◌, ◌⊎◌, ℕ, ◌+◌, ◌*◌, ◌/◌, ◌<◌, ◌≤◌, List, Bool, true, false, Some, length, slice_get, slice_index}
 use Rattle.row_program.specs.Method.{IsWide}
 use Rattle.row_program.specs.Points.{IsLexAtMost, SameValues}
 use Rattle.row_program.specs.declared.Feature.{Feature}

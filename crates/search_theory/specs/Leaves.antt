@@ -1,5 +1,5 @@
 -- The leaves of a search as it keeps them, and what is known of them and of the tree at each turn.
-use Rattle.std.specs.Prelude.{◌≡◌, ◌⊎◌, ℕ, zero, suc, ◌+◌, ◌<◌, ◌≤◌, min, true, false, List, [], ◌∷◌, map, All, Contains, Option, Some, None, length}
+use Rattle.std.specs.Prelude.{◌≡◌, ◌⊎◌, ℕ, zero, suc, ◌<◌, ◌≤◌, min, true, false, List, [], ◌∷◌, map, All, Contains, Option, Some, None, length}
 use Rattle.ballot_form.specs.declared.limits.TheConstants.{MOST_BALLOTS}
 use Rattle.bound_tree.specs.Growth.{cuts_of}
 use Rattle.bound_tree.specs.Plain.{Plain, Split, Branch, Cut}
@@ -8,12 +8,11 @@ use Rattle.goal_rows.specs.Cells.{high_end, low_end}
 use Rattle.goal_rows.specs.Elections.{Election, Node}
 use Rattle.goal_rows.specs.Goals.{IsReached}
 use Rattle.goal_rows.specs.Nodes.{IsFeatureOf, high_half, low_half, number_count, without_limits}
-use Rattle.goal_rows.specs.declared.goals.Goal.TheVariants.{Root}
 use Rattle.dual_bound.specs.CutTest.{IsBound}
 use Rattle.node_bounds.specs.Ceilings.{IsCeiling}
 use Rattle.search_theory.specs.Branchings.{Branching, IsBranching, IsLeastOf, IsSolid, Values, is_pair, variables_at}
 use Rattle.search_theory.specs.Ends.{Problem, cuts_in}
-use Rattle.search_theory.specs.Spots.{Hung, Spot, cover_list, has_cover, path_of}
+use Rattle.search_theory.specs.Spots.{Hung, cover_list, has_cover, path_of}
 use Rattle.search_theory.specs.Trees.{HasAnchor, IsNeeded, top_of}
 
 -- ---- leaves

@@ -9,6 +9,4 @@
 
 mod laws;
 
-pub use laws::{
-    a_search_has_one_end, a_search_proves_its_least_bound, a_turn_keeps_what_is_known,
-};
+pub use laws::{a_search_has_one_end, a_search_proves_its_least_bound, a_turn_keeps_what_is_known};

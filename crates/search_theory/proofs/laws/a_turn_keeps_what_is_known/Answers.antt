@@ -1,5 +1,5 @@
 use Rattle.std.proofs.Common.{◌≤◌, subst, sym}
-use Rattle.search_theory.specs.Leaves.{growth_tree, lowest}
+use Rattle.search_theory.specs.Leaves.{lowest}
 use Rattle.search_theory.specs.Spots.{put_at}
 use Rattle.search_theory.proofs.Facts.{laws_of}
 use Rattle.search_theory.proofs.Turns.{lowest-first, step}
