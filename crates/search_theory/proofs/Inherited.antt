@@ -29,10 +29,10 @@ kept_count e node =
     let c = length-map node.limits (kept_limit e node.goal) in
     omega (arith, a, b, c)
 
-half_cut : (e : Election) (node : Node) (limit : Limit) (ms : List ℕ) (b : ℕ) → length ms ≡ number_count e node → IsBound e node ms b → IsCutBySome e b (with_limit node limit)
-half_cut e node limit ms b count bound =
+-- those with a zero for one limit more have the bound too
+pub half_bound : (e : Election) (node : Node) (limit : Limit) (ms : List ℕ) (b : ℕ) → length ms ≡ number_count e node → IsBound e node ms b → (length (inherited_by_half ms) ≡ number_count e (with_limit node limit)) × IsBound e (with_limit node limit) (inherited_by_half ms) b
+half_bound e node limit ms b count bound =
     let long : length ms ≡ length (kept_of e node) = count ∙ sym (kept_count e node) in (
-      inherited_by_half ms,
       omega (arith, count, length-append ms (0 ∷ []), length-append node.limits (limit ∷ [])),
       alike_bound e node (with_limit node limit) ms (inherited_by_half ms) b (λ t. half_cuts e node limit ms t long) bound,
     )
@@ -41,14 +41,14 @@ length-zeros : (n : ℕ) → length {A = ℕ} (replicate n 0) ≡ n
 length-zeros zero = refl
 length-zeros (suc n) = ap suc (length-zeros n)
 
-kid_cut : (e : Election) (goal : Goal) (place : ℕ) (kid : Goal) (ms : List ℕ) (b : ℕ) → IsKid e goal place kid → length ms ≡ number_count e (without_limits goal) →
-    IsBound e (without_limits goal) ms b → IsCutBySome e b (without_limits kid)
-kid_cut e goal place kid ms b is count bound =
+-- those with zeros for a kid's new rows have the bound too
+pub kid_bound : (e : Election) (goal : Goal) (place : ℕ) (kid : Goal) (ms : List ℕ) (b : ℕ) → IsKid e goal place kid → length ms ≡ number_count e (without_limits goal) →
+    IsBound e (without_limits goal) ms b → (length (inherited_by_kid e goal kid ms) ≡ number_count e (without_limits kid)) × IsBound e (without_limits kid) (inherited_by_kid e goal kid ms) b
+kid_bound e goal place kid ms b is count bound =
     let new = length (rows_of e kid) - length (rows_of e goal) in
     let zeros : List ℕ = replicate new 0 in
     let more = behind e goal place kid is in
     let rows = ap length more.rows ∙ length-append more.new (rows_of e goal) in (
-      inherited_by_kid e goal kid ms,
       omega (arith, count, length-append zeros ms, length-zeros new, rows),
       alike_bound e (without_limits goal) (without_limits kid) ms (inherited_by_kid e goal kid ms) b (λ t. kid_cuts e goal place kid ms t is) bound,
     )
@@ -61,7 +61,7 @@ kids_from e goal ms b count bound done (kid ∷ rest) covers =
     let all = done ++ kid ∷ rest in
     let here : length done < length all = omega (arith, length-append done (kid ∷ rest)) in
     let is : IsKid e goal (length done) kid = (all, covers, here, at_end done kid rest kid) in (
-      kid_cut e goal (length done) kid ms b is count bound,
+      (inherited_by_kid e goal kid ms, (kid_bound e goal (length done) kid ms b is count bound).0, (kid_bound e goal (length done) kid ms b is count bound).1),
       kids_from e goal ms b count bound (done ++ kid ∷ []) rest (covers ∙ ap Some (snoc done kid rest)),
     )
   where
@@ -80,4 +80,6 @@ inherits e node ms b ByCover may plain count bound =
     let free : node ≡ without_limits node.goal = ap (λ (ls : List Limit). record { goal = node.goal; limits = ls }) (plain may) in
     kids_from e node.goal ms b (subst (λ n. length ms ≡ number_count e n) free count) (subst (λ n. IsBound e n ms b) free bound) [] (cover_list e node.goal) (cover_is e node.goal may)
 inherits e node ms b (ByBranch by) may plain count bound =
-    (half_cut e node (low_limit by.feature by.value) ms b count bound, (half_cut e node (high_limit by.feature by.value) ms b count bound, tt))
+    let low = half_bound e node (low_limit by.feature by.value) ms b count bound in
+    let high = half_bound e node (high_limit by.feature by.value) ms b count bound in
+    ((inherited_by_half ms, low.0, low.1), ((inherited_by_half ms, high.0, high.1), tt))
