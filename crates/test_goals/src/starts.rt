@@ -1,4 +1,6 @@
 // Where a search begins, on small contests under every rule.
+ghost use Rattle.ballot_form.specs.Rules.{IsRule};
+
 use crate::rolls::roll_of;
 use ballot_form::{Cand, Rule};
 use goal_rows::{Goal, race};
@@ -38,7 +40,9 @@ fn witness_text(alloc: Global, witness: &Witness) -> Result<String, Fail> {
 }
 
 /// What a search begins with, as text.
-fn start_text(alloc: Global, rule: Rule, ballots: &str) -> Result<String, Fail> {
+fn start_text(alloc: Global, rule: Rule, ballots: &str) -> Result<String, Fail>
+    requires { IsRule rule }
+{
     let roll = roll_of(alloc, ballots)?;
     let race = race(alloc, rule, &roll)?;
     match start_witness(alloc, &race)? {
@@ -48,7 +52,9 @@ fn start_text(alloc: Global, rule: Rule, ballots: &str) -> Result<String, Fail> 
 }
 
 /// A line of a table: ballots, and what a search begins with.
-fn begins(rt: &impl Abort, alloc: Global, rule: Rule, line: &str) -> Result<(), Fail> {
+fn begins(rt: &impl Abort, alloc: Global, rule: Rule, line: &str) -> Result<(), Fail>
+    requires { IsRule rule }
+{
     let (ballots, want) = line.split_once(';').ok_or("no text")?;
     let found = start_text(alloc, rule, ballots)?;
     assert_eq!(rt; found.as_str(), want.trim());
