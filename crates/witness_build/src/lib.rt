@@ -16,6 +16,7 @@
 
 mod chosen;
 mod covers;
+mod ends;
 mod laws;
 mod levels;
 mod pairs;
@@ -24,6 +25,7 @@ mod starts;
 mod walks;
 
 pub use covers::cover_witness;
+pub use ends::{End, Found};
 pub use laws::{a_start_witness_has_the_start_number, no_shorter_alteration_meets_a_root_pair};
 pub use pairs::{Witness, pair_witness};
 pub use rounds::last_round;
