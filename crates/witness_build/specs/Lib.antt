@@ -1,4 +1,5 @@
 pub mod CoverWalks
+pub mod FromPoints
 pub mod Lacking
 pub mod LastRounds
 pub mod Levels

@@ -1,0 +1,69 @@
+-- The replacements that a point stands for: in each class the lowest-numbered ballots, as many as its variable says, and
+-- new ballots that use the arcs of a suffix as often as the point says, or that rank one candidate alone.
+use Rattle.std.specs.Prelude.{◌≡◌, ℕ, ◌-◌, ◌==◌, nat_lt, Bool, List, [], ◌∷◌, if◌then◌else◌, count_by, drop, filter, length, map, replicate, slice_index, take}
+use Rattle.std.proofs.Common.{zero, suc}
+use Rattle.std.specs.List.{range_with_len, zip}
+use Rattle.row_program.specs.Points.{IsPoint, cost_of}
+use Rattle.row_program.specs.declared.program.Program.{Program}
+use Rattle.sig_graph.specs.Paths.{ballot_of}
+use Rattle.sig_graph.specs.Walks.{split_of}
+use Rattle.goal_rows.specs.Elections.{Election}
+use Rattle.goal_rows.specs.Programs.{arcs_under, costs_of, program_rows}
+use Rattle.goal_rows.specs.Races.{keys_of}
+use Rattle.goal_rows.specs.declared.goals.Goal.{Goal}
+use Rattle.goal_rows.specs.declared.goals.Goal.TheVariants.{Root, Suffix, Pair, Cover}
+use Rattle.goal_rows.specs.declared.parts.Ground.{Ground}
+
+-- ---- the point
+
+-- the costs and rows of the goal's program without limits, and whole numbers at which each row is at least 0
+pub record IsPointWithout (start : Ground) (whole : List ℕ) : Type 0 where
+  pub program : Program
+  pub costs : program.costs ≡ costs_of start.classes (arcs_under start.goal)
+  pub rows : program.rows ≡ program_rows start []
+  pub point : IsPoint program whole 1
+
+-- what the point costs: how many ballots are replaced
+abbrev pub replaced_at : Ground → List ℕ → ℕ
+replaced_at start whole = cost_of (costs_of start.classes (arcs_under start.goal)) whole
+
+-- ---- the ballots that are replaced
+
+-- the number of the class of this key: how many ballots of it are replaced; none where there is no such class
+abbrev pub number_for : List (ℕ × ℕ) → List ℕ → ℕ → ℕ
+number_for [] whole key = 0
+number_for (c ∷ classes) whole key =
+    if c.0 == key then slice_index whole 0 else number_for classes (drop 1 whole) key
+
+-- fewer ballots of the key of this one stand before it than are replaced
+abbrev pub is_low : List ℕ → (ℕ → ℕ) → ℕ → Bool
+is_low keys wanted number =
+    nat_lt (count_by (λ key. key == slice_index keys (number - 1)) (take (number - 1) keys))
+    (wanted (slice_index keys (number - 1)))
+
+-- the numbers of these ballots, from 1, ascending
+abbrev pub low_numbers : List ℕ → (ℕ → ℕ) → List ℕ
+low_numbers keys wanted = filter (is_low keys wanted) (range_with_len 1 (length keys))
+
+-- those that a point replaces: in each class the lowest, as many as its variable says
+abbrev pub replaced_numbers : Election → Ground → List ℕ → List ℕ
+replaced_numbers e start whole = low_numbers (keys_of e start.goal) (number_for start.classes whole)
+
+-- ---- the new ballots
+
+-- so many new ballots of a goal: under a suffix those of the paths of the flow, in order; under a pair the gainer alone,
+-- and under a cover its candidate alone
+abbrev pub new_ballots : Goal → List ℕ → ℕ → List (List ℕ)
+new_ballots Root flow total = []
+new_ballots (Suffix suffix) flow total = map (ballot_of suffix) (split_of (length suffix) flow total)
+new_ballots (Pair g l) flow total = replicate total (g ∷ [])
+new_ballots (Cover x) flow total = replicate total (x ∷ [])
+
+-- the flow on the arcs: what the point says of the variables behind those of the classes
+abbrev pub arcs_at : Ground → List ℕ → List ℕ
+arcs_at start whole = drop (length start.classes) whole
+
+-- the replacements that a point stands for
+abbrev pub changes_at : Election → Ground → List ℕ → List (ℕ × List ℕ)
+changes_at e start whole =
+    zip (replaced_numbers e start whole) (new_ballots start.goal (arcs_at start whole) (replaced_at start whole))
