@@ -1,1 +1,2 @@
 pub mod BareNodes
+pub mod CoverSeeds

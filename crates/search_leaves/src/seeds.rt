@@ -1,8 +1,9 @@
 // Nodes that are to become leaves.
-ghost use Rattle.std.specs.Prelude.{◌≡◌, ◌++◌, ℕ, [], All, IfOk, map, replicate, true};
-ghost use Rattle.goal_rows.specs.Goals.{IsKid};
+ghost use Rattle.std.specs.Prelude.{◌≡◌, ◌++◌, ℕ, [], All, IfOk, Some, map, replicate, true};
+ghost use Rattle.goal_rows.specs.Goals.{IsKid, cover_of};
+ghost use Rattle.goal_rows.specs.LongerKeys.{goals_of};
 ghost use Rattle.goal_rows.specs.Nodes.{without_limits};
-ghost use Rattle.goal_rows.specs.Races.{IsGroundIn, IsRace, election_of};
+ghost use Rattle.goal_rows.specs.Races.{IsGroundIn, IsGroundOf, IsRace, election_of};
 ghost use Rattle.search_theory.specs.Spots.{cover_list, has_cover};
 ghost use Rattle.search_leaves.specs.Kept.{IsGrowing, IsSeedOf, node_in};
 
@@ -49,11 +50,30 @@ pub fn seeds_by_cover(alloc: Global, race: &Race<'_>, leaf: &Leaf) -> Result<Vec
         map node_in seeds.items ≡ map without_limits (cover_list (election_of race.now) leaf.now.start.goal)) }
     ensures seeds { IfOk result (λ seeds. All (IsSeedOf (election_of race.now) leaf.now) seeds.items) }
 {
+    match kid_grounds(alloc, race, &leaf.start.goal)? {
+        Some(starts) => kid_seeds(alloc, race, leaf, starts.into_vec()),
+        None => Ok(Vec::new(alloc)),
+    }
+}
+
+/// The nodes of the goals of a leaf's cover, which have these grounds.
+fn kid_seeds(
+    alloc: Global,
+    race: &Race<'_>,
+    leaf: &Leaf,
+    starts: Vec<Ground>,
+) -> Result<Vec<Seed>, Memory>
+    requires race { IsRace race.now }
+    requires leaf { IsGrowing (election_of race.now) leaf.now }
+    requires plain { leaf.now.limits.items ≡ [] }
+    requires cover { cover_of (election_of race.now) leaf.now.start.goal ≡ Some (goals_of starts.items) }
+    requires values { All (IsGroundOf (election_of race.now)) starts.items }
+    ensures nodes { IfOk result (λ seeds. map node_in seeds.items ≡ map without_limits (goals_of starts.items)) }
+    ensures seeds { IfOk result (λ seeds. All (IsSeedOf (election_of race.now) leaf.now) seeds.items) }
+{
     let mut seeds = Vec::new(alloc);
-    if let Some(starts) = kid_grounds(alloc, race, &leaf.start.goal)? {
-        for start in starts.into_vec() {
-            seeds.push(kid_seed(alloc, race, leaf, start)?)?;
-        }
+    for start in starts {
+        seeds.push(kid_seed(alloc, race, leaf, start)?)?;
     }
     Ok(seeds)
 }
