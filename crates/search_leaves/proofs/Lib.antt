@@ -1,0 +1,2 @@
+pub mod BareNodes
+pub mod CoverSeeds

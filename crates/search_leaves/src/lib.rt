@@ -1,0 +1,13 @@
+//! The leaves of a search: how they are made and how they grow.
+//!
+//! A leaf has the ground of its goal, its limits, multipliers with their bound, and for a complete goal its least point
+//! if it has one. `seeds_by_cover` and `seeds_by_branch` are the nodes into which a leaf is split or branched, with the
+//! multipliers that they inherit: the leaf's own, with zeros for what is new, which have its bound. What a leaf is, and
+//! what is known of it, is defined in `search_theory`; both searches stand on this crate.
+#![tactic(auto)]
+
+mod leaves;
+mod seeds;
+
+pub use leaves::Leaf;
+pub use seeds::{Branching, Seed, seeds_by_cover};
