@@ -96,8 +96,8 @@ fn is_fixed(limits: &[Limit], feature: Feature, end: u32) -> bool
     low_end(limits, feature) == high_end(limits, feature, end)
 }
 
-/// The least count of the feature that the limits leave.
-pub(crate) fn low_end(limits: &[Limit], feature: Feature) -> u32
+/// The least count of the feature that the limits leave: 0, or the greatest value of those that are lower limits on it.
+pub fn low_end(limits: &[Limit], feature: Feature) -> u32
     ensures { result ≡ least_count limits.now feature }
 {
     let mut low = 0;
@@ -109,8 +109,9 @@ pub(crate) fn low_end(limits: &[Limit], feature: Feature) -> u32
     low
 }
 
-/// The greatest count of the feature that they leave, of which there are so many without limits.
-fn high_end(limits: &[Limit], feature: Feature, end: u32) -> u32
+/// The greatest count of the feature that the limits leave: the least of `end`, which is how many there are without
+/// limits, and the values of those that are upper limits on it.
+pub fn high_end(limits: &[Limit], feature: Feature, end: u32) -> u32
     ensures { result ≡ greatest_count limits.now (variable feature end) }
 {
     let mut high = end;
