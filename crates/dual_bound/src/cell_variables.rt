@@ -44,8 +44,9 @@ fn low_ends(alloc: Global, limits: &[Limit], features: &[Feature]) -> Result<Num
     Ok(values)
 }
 
-/// The features that the variables of a program count, in its order.
-pub(crate) fn features(alloc: Global, start: &Ground) -> Result<Vec<Feature>, Memory>
+/// The features that the variables of a program count, in its order: those of the classes, and then those of the arcs.
+/// The goal of `start` is one with features.
+pub fn features(alloc: Global, start: &Ground) -> Result<Vec<Feature>, Memory>
     requires start { IsSomeGround start.now }
     requires features { HasFeatures start.now.goal }
     ensures { IfOk result (λ features. features.items ≡ features_of start.now) }

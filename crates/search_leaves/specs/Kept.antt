@@ -1,14 +1,18 @@
 -- The leaves of a search as the program keeps them, and the nodes that are to become leaves.
-use Rattle.std.specs.Prelude.{◌≡◌, ℕ, ◌+◌, ◌<◌, ◌≤◌, List, Option, Some, None, length}
+use Rattle.std.specs.Prelude.{◌≡◌, ℕ, ◌+◌, ◌<◌, ◌≤◌, List, All, Contains, Option, Some, None, length, map}
+use Rattle.ballot_form.specs.declared.limits.TheConstants.{MOST_BALLOTS}
 use Rattle.bound_tree.specs.declared.bound.TheConstants.{MOST_DEPTH}
 use Rattle.row_program.specs.declared.limits.TheConstants.{MOST_LIMITS}
+use Rattle.row_program.specs.declared.Limit.{Limit}
 use Rattle.row_program.specs.declared.program.Point.{Point}
 use Rattle.goal_rows.specs.Elections.{Election, Node}
-use Rattle.goal_rows.specs.Nodes.{node_of, number_count}
+use Rattle.goal_rows.specs.Cells.{high_end, low_end}
+use Rattle.goal_rows.specs.Nodes.{IsFeatureOf, node_of, number_count, with_limit}
 use Rattle.goal_rows.specs.Races.{IsGroundIn}
 use Rattle.dual_bound.specs.CutTest.{IsBound}
-use Rattle.search_theory.specs.Branchings.{Values}
+use Rattle.search_theory.specs.Branchings.{Branching, Values, variables_at}
 use Rattle.search_theory.specs.Leaves.{HasRanges, Leaf}
+use Rattle.search_leaves.specs.declared.branchings.Branching.{Branching as KeptBranching}
 use Rattle.search_leaves.specs.declared.leaves.Leaf.{Leaf as KeptLeaf}
 use Rattle.search_leaves.specs.declared.seeds.Seed.{Seed}
 
@@ -61,3 +65,21 @@ pub record IsSeedOf (e : Election) (kept : KeptLeaf) (seed : Seed) : Type 0 wher
   pub own : IsSeed e seed
   pub bound : seed.bound ≡ kept.bound
   pub depth : seed.depth ≡ kept.depth + 1
+
+-- ---- halves
+
+-- the feature and the value by which the program branches
+abbrev pub branching_in : KeptBranching → Branching
+branching_in b = record { feature = b.feature; value = b.value }
+
+-- one limit more leaves the node its ranges
+pub record IsHalf (e : Election) (node : Node) (limit : Limit) : Type 0 where
+  pub ranges : HasRanges e (with_limit node limit)
+
+-- the feature is one of the goal and of its variables, and each half leaves each variable of it some value
+pub record CanHalve (e : Election) (node : Node) (b : Branching) : Type 0 where
+  pub feature : IsFeatureOf e node.goal b.feature
+  pub on_variable : Contains (map (λ v. v.feature) (variables_at e node)) b.feature
+  pub small : b.value < MOST_BALLOTS
+  pub low : low_end node.limits b.feature ≤ b.value
+  pub high : All (λ v. v.feature ≡ b.feature → b.value < high_end node.limits v) (variables_at e node)

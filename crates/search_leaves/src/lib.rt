@@ -6,8 +6,13 @@
 //! what is known of it, is defined in `search_theory`; both searches stand on this crate.
 #![tactic(auto)]
 
+mod branchings;
+mod copies;
+mod halves;
 mod leaves;
 mod seeds;
 
+pub use branchings::{Branching, branching_of};
+pub use halves::seeds_by_branch;
 pub use leaves::Leaf;
-pub use seeds::{Branching, Seed, seeds_by_cover};
+pub use seeds::{Seed, seeds_by_cover};

@@ -30,15 +30,6 @@ pub struct Seed {
     pub depth: u32,
 }
 
-/// The feature by which a leaf is branched, and the value of its low half.
-#[derive(Clone, Copy, Debug)]
-pub struct Branching {
-    /// What is limited.
-    pub feature: Feature,
-    /// The greatest value in the low half.
-    pub value: u32,
-}
-
 /// The nodes into which a leaf is split: the goals of its cover, in order, without limits. Its goal has a cover, and it
 /// has no limits.
 pub fn seeds_by_cover(alloc: Global, race: &Race<'_>, leaf: &Leaf) -> Result<Vec<Seed>, Memory>
