@@ -29,7 +29,7 @@ mod scratch;
 mod weighing;
 
 pub use cell_cuts::cell_cut;
-pub use cell_variables::{cell_values, features};
+pub use cell_variables::{cell_values, features as variable_features};
 pub use cells::{high_end, is_cell, low_end};
 pub use laws::{
     a_bound_is_one_number, a_cut_holds_below, a_cut_is_sound, a_ground_has_few_classes,

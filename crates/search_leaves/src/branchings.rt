@@ -1,5 +1,5 @@
 // Where a leaf is branched.
-ghost use Rattle.std.specs.Prelude.{◌≡◌, ◌≤◌, ◌<◌, ◌*◌, ◌×◌, ℕ, All, IfOk, Some, length, slice_get};
+ghost use Rattle.std.specs.Prelude.{◌≡◌, ◌≤◌, ◌<◌, ◌*◌, ℕ, All, IfOk, Some, length, slice_get};
 ghost use Rattle.ballot_form.specs.declared.limits.TheConstants.{MOST_BALLOTS};
 ghost use Rattle.goal_rows.specs.Cells.{HasFeatures, Variable as AVariable, variables_of};
 ghost use Rattle.goal_rows.specs.Elections.{Election};
@@ -9,7 +9,7 @@ ghost use Rattle.search_leaves.specs.Branched.{HasPart, HasWide, IsBranchedAt, I
 ghost use Rattle.search_leaves.specs.Kept.{CanHalve, branching_in, node_at};
 
 use crate::leaves::Leaf;
-use dual_bound::{features, high_end, low_end};
+use dual_bound::{high_end, low_end, variable_features};
 use goal_rows::parts::Ground;
 use mov_base::Memory;
 use row_program::{Feature, Limit, Point};
@@ -34,7 +34,7 @@ pub fn branching_of(alloc: Global, leaf: &Leaf) -> Result<Branching, Memory>
     ensures halves { (e : Election) → MayBranch e leaf.now →
         IfOk result (λ b. CanHalve e (node_at leaf.now) (branching_in b)) }
 {
-    let features = features(alloc, &leaf.start)?;
+    let features = variable_features(alloc, &leaf.start)?;
     match &leaf.point {
         Some(point) => Ok(floor_of(&features, point)),
         None => Ok(middle_of(&leaf.start, &features, leaf.limits.as_slice())),

@@ -1,5 +1,5 @@
 // The two halves of a leaf.
-ghost use Rattle.std.specs.Prelude.{◌≡◌, ◌×◌, ◌++◌, ◌∷◌, [], All, IfOk, map};
+ghost use Rattle.std.specs.Prelude.{◌≡◌, ◌++◌, ◌∷◌, [], All, IfOk, map};
 ghost use Rattle.goal_rows.specs.Elections.{Election};
 ghost use Rattle.goal_rows.specs.Nodes.{high_half, low_half, with_limit};
 ghost use Rattle.search_leaves.specs.Kept.{CanHalve, IsGrowing, IsHalf, IsSeedOf, branching_in, node_at, node_in};

@@ -1,0 +1,6 @@
+use Rattle.std.proofs.Common.{◌≡◌, ◌<◌, ℕ}
+use Rattle.std.specs.Prelude.{◌%◌, slice_index}
+use Rattle.search_leaves.proofs.branchings.floor_of.Given as goal
+
+abbrev pub invariant-loop-k : goal.invariant-loop-k
+invariant-loop-k l = (j : ℕ) → j < l.k → slice_index l.fn.point.now.whole j % l.fn.point.now.den ≡ 0
