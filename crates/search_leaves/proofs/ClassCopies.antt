@@ -1,9 +1,8 @@
 -- Classes that are copied one after another.
-use Rattle.std.proofs.Common.{◌≡◌, ◌≢◌, ℕ, zero, suc, ◌+◌, ◌<◌, ◌≤◌, ◌++◌, ◌∙◌, List, [], ◌∷◌, All, AllPairs, get_or, length, map, take, refl, sym, ap, subst, arith}
+use Rattle.std.proofs.Common.{◌≡◌, ◌≢◌, ℕ, zero, suc, ◌+◌, ◌<◌, ◌≤◌, ◌++◌, ◌∙◌, List, [], ◌∷◌, All, AllPairs, false, get_or, length, map, take, refl, sym, ap, subst, arith}
 use Rattle.std.specs.Prelude.{nat_eq, nat_lt}
 use Rattle.std.proofs.lemmas.Bool.Decides.{nat_tests}
 use Rattle.std.proofs.lemmas.List.{get_or-take, get_or_default, length-map, length-take, take_more}
-use Rattle.std.proofs.lemmas.Grind.{lists}
 use Rattle.mov_base.specs.Sums.{add_up}
 use Rattle.ballot_form.specs.declared.limits.TheConstants.{MOST_BALLOTS}
 use Rattle.signature_class.specs.Classes.{IsClassList, add_class, count_of, keys_of}
@@ -63,3 +62,6 @@ counts_small start some = λ k d lt.
     let one = class_small start.classes k in
     let same = ap (λ (c : ℕ × ℕ). c.1) (get_or_default start.classes k d (0, 0) lt) in
     omega (arith, all, one, same)
+
+pub pair_is : (c d : ℕ × ℕ) → c.0 ≡ d.0 → c.1 ≡ d.1 → c ≡ d
+pair_is (a, b) (x, y) one two = rw (one, two) refl

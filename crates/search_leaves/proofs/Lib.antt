@@ -1,8 +1,9 @@
 pub mod BareNodes
 pub mod CoverSeeds
 pub mod ClassCopies
-pub mod Halves
+pub mod HalfNodes
 pub mod VariableFeatures
 pub mod WholeValues
+pub mod VariableEnds
 pub mod PointRanges
-pub mod Branchings
+pub mod BranchedLeaves

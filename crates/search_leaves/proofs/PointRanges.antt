@@ -1,9 +1,9 @@
 -- The variables of a program: each has a feature of its own, and how many there can be of it.
-use Rattle.std.proofs.Common.{◌≡◌, ◌×◌, ℕ, zero, suc, ◌+◌, ◌*◌, ◌<◌, ◌≤◌, ◌∙◌, List, [], ◌∷◌, All, Some, None, cond, get_or, length, map, refl, sym, ap, subst, arith, inl, inr}
+use Rattle.std.proofs.Common.{◌≡◌, ℕ, zero, suc, ◌+◌, ◌*◌, ◌<◌, ◌≤◌, ◌∙◌, List, [], ◌∷◌, All, Some, None, true, cond, get_or, length, map, refl, sym, ap, subst, arith, inl, inr}
 use Rattle.std.specs.Prelude.{Contains, slice_get, slice_index}
 use Rattle.std.proofs.lemmas.Bool.{cases_lt}
 use Rattle.std.proofs.lemmas.List.{get_or_default, length-map}
-use Rattle.std.proofs.lemmas.List.Elements.{All-append}
+use Rattle.std.proofs.lemmas.List.Elements.{All-append, All-cons}
 use Rattle.std.proofs.lemmas.Option.{get_or_from_slice_get, slice_get_within}
 use Rattle.ballot_form.specs.declared.limits.TheConstants.{MOST_BALLOTS}
 use Rattle.row_program.specs.declared.Feature.{Feature}
@@ -44,19 +44,12 @@ feature_there (v ∷ vs) (suc k) d f lt = feature_there vs k d f (omega (arith, 
 
 class_ends : (classes : List (ℕ × ℕ)) → All (λ (c : ℕ × ℕ). c.1 ≤ MOST_BALLOTS) classes → All (λ (v : Variable). v.end ≤ MOST_BALLOTS) (map (λ (c : ℕ × ℕ). record { feature = From c.0; end = c.1 }) classes)
 class_ends [] all = λ k d lt. absurd (omega (arith, lt))
-class_ends (c ∷ classes) all = λ k d lt. by k d lt
-  where
-    by : (k : ℕ) (d : Variable) → k < length (map (λ (c : ℕ × ℕ). record { feature = From c.0; end = c.1 }) (c ∷ classes)) → (get_or (map (λ (c : ℕ × ℕ). record { feature = From c.0; end = c.1 }) (c ∷ classes)) k d).end ≤ MOST_BALLOTS
-    by zero d lt = all 0 c (omega arith)
-    by (suc k) d lt = class_ends classes (λ j d less. all (suc j) d (omega (arith, less))) k d (omega (arith, lt))
+class_ends (c ∷ classes) all = All-cons (λ (v : Variable). v.end ≤ MOST_BALLOTS) (record { feature = From c.0; end = c.1 }) (map (λ (c : ℕ × ℕ). record { feature = From c.0; end = c.1 }) classes)
+    (all 0 c (omega arith)) (class_ends classes (λ j d less. all (suc j) d (omega (arith, less))))
 
 arc_ends : (arcs : List (ℕ × ℕ)) (n : ℕ) → n ≤ MOST_BALLOTS → All (λ (v : Variable). v.end ≤ MOST_BALLOTS) (map (λ (a : ℕ × ℕ). record { feature = Arc a.0 a.1; end = n }) arcs)
 arc_ends [] n le = λ k d lt. absurd (omega (arith, lt))
-arc_ends (a ∷ arcs) n le = λ k d lt. by k d lt
-  where
-    by : (k : ℕ) (d : Variable) → k < length (map (λ (a : ℕ × ℕ). record { feature = Arc a.0 a.1; end = n }) (a ∷ arcs)) → (get_or (map (λ (a : ℕ × ℕ). record { feature = Arc a.0 a.1; end = n }) (a ∷ arcs)) k d).end ≤ MOST_BALLOTS
-    by zero d lt = le
-    by (suc k) d lt = arc_ends arcs n le k d (omega (arith, lt))
+arc_ends (a ∷ arcs) n le = All-cons (λ (v : Variable). v.end ≤ MOST_BALLOTS) (record { feature = Arc a.0 a.1; end = n }) (map (λ (a : ℕ × ℕ). record { feature = Arc a.0 a.1; end = n }) arcs) le (arc_ends arcs n le)
 
 ends_small : (e : Election) (start : Ground) → IsGroundIn e start → All (λ (v : Variable). v.end ≤ MOST_BALLOTS) (variables_of start)
 ends_small e start is = All-append (λ (v : Variable). v.end ≤ MOST_BALLOTS) (map (λ (c : ℕ × ℕ). record { feature = From c.0; end = c.1 }) start.classes) (map (λ (a : ℕ × ℕ). record { feature = Arc a.0 a.1; end = start.ballots }) (arcs_under start.goal))

@@ -1,5 +1,5 @@
 -- The variables of a goal's program count features of the goal, each one of its own.
-use Rattle.std.proofs.Common.{◌≡◌, ◌×◌, ℕ, zero, suc, ◌+◌, ◌<◌, ◌≤◌, ◌∙◌, List, [], ◌∷◌, All, get_or, length, map, refl, sym, ap, subst, arith}
+use Rattle.std.proofs.Common.{◌≡◌, ℕ, zero, suc, ◌+◌, ◌<◌, ◌≤◌, ◌∙◌, List, [], ◌∷◌, All, get_or, length, map, refl, sym, ap, subst, arith}
 use Rattle.std.specs.Prelude.{Contains, ◌^◌}
 use Rattle.std.proofs.lemmas.List.{length-map}
 use Rattle.ballot_form.specs.Ballots.{IsValidBallot}

@@ -1,5 +1,5 @@
 -- The least point of a node, in its least denominator: where each of its values is whole, that is 1.
-use Rattle.std.proofs.Common.{◌≡◌, ◌×◌, ℕ, zero, suc, ◌+◌, ◌*◌, ◌<◌, ◌≤◌, ◌∙◌, List, [], ◌∷◌, All, get_or, length, map, refl, sym, ap, subst, arith, inl, inr}
+use Rattle.std.proofs.Common.{◌≡◌, ℕ, zero, suc, ◌+◌, ◌*◌, ◌<◌, ◌≤◌, ◌∙◌, List, [], ◌∷◌, All, get_or, length, map, refl, sym, ap, subst, arith, inl, inr}
 use Rattle.std.specs.Prelude.{ℤ, pos, ◌+ℤ◌, ◌-ℤ◌, ◌*ℤ◌, ◌≤ℤ◌, ◌%◌, ◌/◌, slice_index}
 use Rattle.std.proofs.Math.IntN.{negsuc}
 use Rattle.std.proofs.lemmas.Bool.{cases_lt}
@@ -107,7 +107,7 @@ pub whole_at : (q : Values) (k : ℕ) → slice_index q.whole k % q.den ≡ 0 �
 whole_at q k none = let is = div-add-mod' (slice_index q.whole k) q.den in (slice_index q.whole k / q.den, omega (arith, is, none))
 
 pub part_at : (q : Values) (k : ℕ) → 1 ≤ q.den → IsPart q.whole q.den k → IsWholeAt q k → ⊥
-part_at q k some part whole = part (ap (λ n. n % q.den) whole.1 ∙ no_rest whole.0 q.den)
+part_at q k some part whole = part (ap (λ n. n % q.den) whole.1 ∙ no_rest whole.0 q.den some)
   where
-    no_rest : (n den : ℕ) → (n * den) % den ≡ 0
-    no_rest n den = let same : n * den ≡ n * den + 0 = omega arith in ap (λ m. m % den) same ∙ mod-mul-add n den 0 (omega (arith, some))
+    no_rest : (n den : ℕ) → 1 ≤ den → (n * den) % den ≡ 0
+    no_rest n den some = let same : n * den ≡ n * den + 0 = omega arith in ap (λ m. m % den) same ∙ mod-mul-add n den 0 (omega (arith, some))

@@ -1,5 +1,5 @@
 -- The leaves of seeds are the kids of a leaf.
-use Rattle.std.proofs.Common.{◌≡◌, ◌×◌, ℕ, zero, suc, ◌+◌, ◌<◌, ◌≤◌, ◌++◌, ◌∙◌, List, [], ◌∷◌, All, get_or, length, map, refl, sym, ap, subst, arith}
+use Rattle.std.proofs.Common.{◌≡◌, ℕ, zero, suc, ◌+◌, ◌<◌, ◌≤◌, ◌++◌, ◌∙◌, List, [], ◌∷◌, All, get_or, length, map, refl, sym, ap, subst, arith}
 use Rattle.std.proofs.lemmas.List.Elements.{All-cons, All-head, All-nil, All-tail}
 use Rattle.row_program.specs.declared.Limit.{Limit}
 use Rattle.goal_rows.specs.Elections.{Election, Node}

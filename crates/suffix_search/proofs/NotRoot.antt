@@ -1,5 +1,5 @@
 -- The root is no kid and no half.
-use Rattle.std.proofs.Common.{◌≡◌, ◌≢◌, ◌×◌, ℕ, zero, suc, ◌+◌, ◌<◌, ◌≤◌, ◌∙◌, List, [], ◌∷◌, All, Bool, Some, None, true, false, cond, get_or, length, map, refl, sym, ap, subst, arith}
+use Rattle.std.proofs.Common.{◌≡◌, ◌≢◌, ℕ, zero, suc, ◌+◌, ◌<◌, ◌≤◌, ◌∙◌, List, [], ◌∷◌, All, Bool, Some, None, true, false, cond, get_or, length, map, refl, sym, ap, subst, arith}
 use Rattle.std.specs.Prelude.{Contains, nat_lt}
 use Rattle.std.proofs.lemmas.List.{length-map}
 use Rattle.goal_rows.specs.Cells.{HasFeatures}

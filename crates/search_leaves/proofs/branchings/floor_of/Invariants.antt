@@ -3,4 +3,4 @@ use Rattle.std.specs.Prelude.{◌%◌, slice_index}
 use Rattle.search_leaves.proofs.branchings.floor_of.Given as goal
 
 abbrev pub invariant-loop-k : goal.invariant-loop-k
-invariant-loop-k l = (j : ℕ) → j < l.k → slice_index l.fn.point.now.whole j % l.fn.point.now.den ≡ 0
+invariant-loop-k l = (j : ℕ) → j < l.k → slice_index l.fn.point.whole j % l.fn.point.den ≡ 0

@@ -5,4 +5,4 @@ use Rattle.search_leaves.specs.Branched.{IsWide}
 use Rattle.search_leaves.proofs.branchings.middle_of.Given as goal
 
 abbrev pub invariant-loop-k : goal.invariant-loop-k
-invariant-loop-k l = (j : ℕ) (v : Variable) → j < l.k → slice_get (variables_of l.fn.start.now) j ≡ Some v → IsWide l.fn.limits.now v → ⊥
+invariant-loop-k l = (j : ℕ) (v : Variable) → j < l.k → slice_get (variables_of l.fn.start) j ≡ Some v → IsWide l.fn.limits v → ⊥

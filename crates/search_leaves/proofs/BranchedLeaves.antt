@@ -1,5 +1,5 @@
 -- Where a leaf is branched, from what was found in its numbers; and that its halves keep some value.
-use Rattle.std.proofs.Common.{◌≡◌, ◌×◌, ℕ, zero, suc, ◌+◌, ◌-◌, ◌*◌, ◌<◌, ◌≤◌, ◌∙◌, List, [], ◌∷◌, All, Option, Some, None, get_or, length, map, refl, sym, ap, subst, arith, inl, inr}
+use Rattle.std.proofs.Common.{◌≡◌, ℕ, zero, suc, ◌+◌, ◌-◌, ◌*◌, ◌<◌, ◌≤◌, ◌∙◌, List, [], ◌∷◌, All, Option, Some, None, get_or, length, map, refl, sym, ap, subst, arith, inl, inr}
 use Rattle.std.specs.Prelude.{Contains, ◌%◌, ◌/◌, slice_get, slice_index}
 use Rattle.std.proofs.lemmas.Bool.{cases_lt}
 use Rattle.std.proofs.lemmas.List.{get_or_default, length-map}
@@ -8,15 +8,17 @@ use Rattle.std.proofs.lemmas.Nat.{div-add-mod', mod_below}
 use Rattle.std.proofs.lemmas.Option.{get_or_from_slice_get, slice_get_within}
 use Rattle.ballot_form.specs.declared.limits.TheConstants.{MOST_BALLOTS}
 use Rattle.row_program.specs.declared.Feature.{Feature}
+use Rattle.row_program.specs.declared.Feature.TheVariants.{From}
 use Rattle.row_program.specs.declared.Limit.{Limit}
 use Rattle.goal_rows.specs.Cells.{HasFeatures, Variable, high_end, low_end, variables_of}
 use Rattle.goal_rows.specs.Elections.{Election, Node}
 use Rattle.goal_rows.specs.Nodes.{IsFeatureOf}
-use Rattle.goal_rows.specs.Programs.{IsPointOf}
+use Rattle.goal_rows.specs.Programs.{IsPointOf, arcs_under, costs_of}
 use Rattle.goal_rows.specs.Races.{IsGroundIn}
 use Rattle.goal_rows.specs.declared.parts.Ground.{Ground}
 use Rattle.dual_bound.specs.CellCuts.{features_of}
 use Rattle.dual_bound.proofs.CellEnds.{high_below}
+use Rattle.dual_bound.proofs.CellVariables.{variables_count}
 use Rattle.node_bounds.specs.Ceilings.{ground_at}
 use Rattle.node_bounds.proofs.CeilingCuts.{ground_is}
 use Rattle.search_theory.specs.Branchings.{Branching, IsFloor, IsLeastOf, IsMiddle, IsWhole, IsWholeAt, Values, variables_at}
@@ -41,6 +43,11 @@ variable_of (w ∷ vs) (suc k) f is = variable_of vs k f is
 
 there_at : {A : Type 0} (xs : List A) (k : ℕ) (x : A) → slice_get xs k ≡ Some x → Contains xs x
 there_at xs k x is = (k, slice_get_within xs k x is, get_or_from_slice_get xs k x x is)
+
+slice_get_is : {A : Type 0} (xs : List A) (k : ℕ) (d : A) → k < length xs → slice_get xs k ≡ Some (get_or xs k d)
+slice_get_is [] k d lt = absurd (omega (arith, lt))
+slice_get_is (x ∷ xs) zero d lt = refl
+slice_get_is (x ∷ xs) (suc k) d lt = slice_get_is xs k d (omega (arith, lt))
 
 -- ---- halves
 
@@ -101,6 +108,35 @@ module _ (e : Election) (leaf : KeptLeaf) (b : Branching) (may : MayBranch e lea
   same : leaf.start ≡ ground_at e leaf.start.goal
   same = ground_is e leaf.start may.ground
 
+  module _ (q : Values) (least : IsLeastOf e (node_at leaf) q) where
+    ranges : (k : ℕ) (v : Variable) → slice_get (variables_of leaf.start) k ≡ Some v → IsBetween leaf.limits.items v (slice_index q.whole k) q.den
+    ranges =
+        let on = subst (λ (g : Ground). All (λ (l : Limit). Contains (features_of g) l.feature) leaf.limits.items) (sym same) may.ranges.on_variables in
+        let point = subst (λ (g : Ground). IsPointOf g leaf.limits.items q.whole q.den) (sym same) least.point in
+        point_between e leaf.start leaf.limits.items q.whole q.den may.ground may.featured on point
+
+    numbers_long : length q.whole ≡ length (variables_of leaf.start)
+    numbers_long = least.point.all_variables ∙ ap (λ (g : Ground). length (costs_of g.classes (arcs_under g.goal))) (sym same) ∙ sym (variables_count leaf.start)
+
+    -- no number is above what there can be of its variable
+    pub numbers_small : All (λ n. n ≤ MOST_BALLOTS * q.den) q.whole
+    numbers_small = λ k d lt.
+        let vs = variables_of leaf.start in
+        let within : k < length vs = omega (arith, lt, numbers_long) in
+        let v = get_or vs k (record { feature = From 0; end = 0 }) in
+        let stands : slice_get vs k ≡ Some v = slice_get_is vs k _ within in
+        let between = ranges k v stands in
+        let end = one_end e leaf.start k v may.ground stands in
+        let high = high_below leaf.limits.items v in
+        let most = end.most in
+        let up : high_end leaf.limits.items v * q.den ≤ MOST_BALLOTS * q.den = mul-le-mul_right q.den (omega (arith, high, most)) in
+        let top = between.high in
+        let at = get_or_default q.whole k d 0 lt in
+        omega (arith, at, top, up)
+
+    numbers_positive : 1 ≤ q.den
+    numbers_positive = least.point.positive
+
   module _ (q : Values) (least : IsLeastOf e (node_at leaf) q) (is : IsPartAt (features_of leaf.start) q.whole q.den b) where
     found : (v : Variable) × (slice_get (variables_of leaf.start) is.place ≡ Some v) × (b.feature ≡ v.feature)
     found = variable_of (variables_of leaf.start) is.place b.feature is.stands
@@ -121,9 +157,7 @@ module _ (e : Election) (leaf : KeptLeaf) (b : Branching) (may : MayBranch e lea
 
     pub halves_at_floor : CanHalve e (node_at leaf) b
     halves_at_floor =
-        let on = subst (λ (g : Ground). All (λ (l : Limit). Contains (features_of g) l.feature) leaf.limits.items) (sym same) may.ranges.on_variables in
-        let point = subst (λ (g : Ground). IsPointOf g leaf.limits.items q.whole q.den) (sym same) least.point in
-        let between = point_between e leaf.start leaf.limits.items q.whole q.den may.ground may.featured on point is.place found.0 found.1 in
+        let between = ranges q least is.place found.0 found.1 in
         let ends = inside (low_end leaf.limits.items found.0.feature) (high_end leaf.limits.items found.0) (slice_index q.whole is.place) q.den least.point.positive between.low between.high is.part in
         halves_at e (node_at leaf) leaf.start b is.place found.0 may.ground same may.featured stands_there found.2
         (let le = ends.low_le in let floor = is.floor in omega (arith, le, floor)) (let lt = ends.below in let floor = is.floor in omega (arith, lt, floor))
