@@ -17,9 +17,9 @@ use crate::cut_numbers::cut_number;
 use bound_tree::{BoundTree, GrowFault, MultiplierLists};
 use goal_rows::kid_count;
 use goal_rows::parts::Race;
-use mov_base::{List, Memory};
+use mov_base::Memory;
 use search_leaves::{Leaf, Seed, Tools, branching_of, new_leaf, seeds_by_branch, seeds_by_cover};
-use std::alloc::Global;
+use std::alloc::{AllocError, Global};
 
 /// The leaf at the place grows: its kids come in its place, and in the tree in the place of its node.
 pub(crate) fn grow(
@@ -140,14 +140,14 @@ fn multipliers_of(alloc: Global, leaves: &[Leaf]) -> Result<MultiplierLists, Mem
 }
 
 /// That a tree grew, which has room and isn't too deep.
-fn grown(result: Result<(), GrowFault>) -> Result<(), Memory>
-    requires room { IsErrOf result faults.TooManyNodes → ⊥ }
-    requires shallow { IsErrOf result faults.TooDeep → ⊥ }
-    ensures { OnOk result (IsOk result) }
+fn grown(growth: Result<(), GrowFault>) -> Result<(), Memory>
+    requires room { IsErrOf growth faults.TooManyNodes → ⊥ }
+    requires shallow { IsErrOf growth faults.TooDeep → ⊥ }
+    ensures { IsOk result → IsOk growth }
 {
-    match result {
+    match growth {
         Ok(()) => Ok(()),
-        Err(GrowFault::Memory) => Err(Memory),
+        Err(GrowFault::Memory) => Err(AllocError),
         Err(_) => unreachable!(),
     }
 }
