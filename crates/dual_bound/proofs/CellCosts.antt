@@ -234,7 +234,7 @@ pub by_key : (key : ℕ) (g : Feature) → is_from key g ≡ same_feature (From 
 by_key key (From other) = refl
 by_key key (Arc u p) = refl
 
-by_arc : (a : ℕ × ℕ) (g : Feature) → is_arc a g ≡ same_feature (Arc a.0 a.1) g
+pub by_arc : (a : ℕ × ℕ) (g : Feature) → is_arc a g ≡ same_feature (Arc a.0 a.1) g
 by_arc a (From key) = refl
 by_arc a (Arc u p) = refl
 

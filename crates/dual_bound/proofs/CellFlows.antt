@@ -23,13 +23,11 @@ use Rattle.sig_graph.specs.Rows.{one_where}
 use Rattle.goal_rows.specs.Cells.{IsCell, Variable, cell_values, low_end, same_feature, variables_of}
 use Rattle.goal_rows.specs.Elections.{Election}
 use Rattle.goal_rows.specs.Nodes.{AreLimits, node_of}
-use Rattle.goal_rows.specs.Programs.{arc_weight, arcs_under, flow_rows_of, flow_weighings, is_some_weight, key_weight, program_rows, row_by, term_at, terms_of, weight_of, weights_by}
+use Rattle.goal_rows.specs.Programs.{flow_rows_of, flow_weighings, is_some_weight, program_rows, row_by, term_at, terms_of, weight_of}
 use Rattle.goal_rows.specs.Races.{IsGroundIn, key_of, keys_of}
 use Rattle.goal_rows.specs.Suffixes.{those}
 use Rattle.goal_rows.specs.declared.goals.Goal.TheVariants.{Suffix}
 use Rattle.goal_rows.specs.declared.parts.Ground.{Ground}
-use Rattle.goal_rows.specs.declared.weighings.Weighing.{Weighing}
-use Rattle.goal_rows.specs.declared.weighings.Weighing.TheVariants.{Leaving}
 use Rattle.goal_rows.proofs.Lists.{those_are}
 use Rattle.dual_bound.specs.CellCuts.{above_none, case_of, cell_multipliers, classes_in, feature_at, features_of, first_broken, given_each, given_in, has_upper, is_broken, is_unbounded, terms_at, times_on}
 use Rattle.dual_bound.specs.CellParts.{IsFixed}
@@ -45,7 +43,7 @@ use Rattle.dual_bound.proofs.CellMultipliers.{row_part}
 use Rattle.dual_bound.proofs.CellRowValues.{row_in_cell, sum_z-map, times_are, weight_on, weights_are, weights_over}
 use Rattle.dual_bound.proofs.CellSuffixes.{left_cuts, path_brings}
 use Rattle.dual_bound.proofs.CellVariables.{on_arc, on_class, values_are}
-use Rattle.dual_bound.proofs.FlowRows.{IsFlowRow, flow_row}
+use Rattle.dual_bound.proofs.FlowRows.{IsFlowRow, flow_arc, flow_key, flow_row, flow_row_at, flow_rows_count}
 use Rattle.dual_bound.proofs.Exact.{grouped_keys}
 use Rattle.dual_bound.proofs.GivenLimits.{and_left, and_right, eq_test, got, kept_at, limits_base, limits_on, lower, upper}
 use Rattle.dual_bound.proofs.PathTotals.{path_at_most}
@@ -426,9 +424,5 @@ pub flow_cut : (e : Election) (start : Ground) (suffix : List ℕ) (limits : Lis
     → get_or (program_rows (with_goal start (Suffix suffix)) limits) r empty_row ≡ get_or (flow_rows_of (with_goal start (Suffix suffix))) j empty_row
     → IsBound e (node_of (with_goal start (Suffix suffix)) limits) (cell_multipliers (with_goal start (Suffix suffix)) limits) (start.ballots + 1)
 flow_cut e start suffix limits r j is few cell are broken lt past same =
-    let ws = flow_weighings (Suffix suffix) in
-    let make : Weighing → Row = λ weighing. row_by (pos 0) (weights_by weighing start.classes (arcs_under (Suffix suffix))) in
-    let long = length-map ws make in
-    let within : j < length ws = omega (arith, lt, long) in
-    let w = get_or ws j Leaving in
-    flow_row_cut e start suffix limits r (key_weight w) (arc_weight w) is few cell are broken past (same ∙ at_of make ws j empty_row Leaving within) (flow_row suffix j within)
+    let within : j < length (flow_weighings (Suffix suffix)) = omega (arith, lt, flow_rows_count start suffix) in
+    flow_row_cut e start suffix limits r (flow_key suffix j) (flow_arc suffix j) is few cell are broken past (same ∙ flow_row_at start suffix j within) (flow_row suffix j within)

@@ -239,7 +239,7 @@ point_where_none start limits none = record {
         let le = all_fail (position_or_len p rows) (length rows) none in
         fails_before_first p rows k d (omega (arith, lt, le))
 
-some_broken : (start : Ground) (limits : List Limit) → (IsPointOf start limits (cell_values start limits) 1 → ⊥) → (r : ℕ) × (first_broken start limits ≡ Some r)
+pub some_broken : (start : Ground) (limits : List Limit) → (IsPointOf start limits (cell_values start limits) 1 → ⊥) → (r : ℕ) × (first_broken start limits ≡ Some r)
 some_broken start limits never = by (first_broken start limits) refl
   where
     by : (o : Option ℕ) → first_broken start limits ≡ o → (r : ℕ) × (first_broken start limits ≡ Some r)

@@ -1,7 +1,7 @@
 -- A cell of a suffix: a bound for its gains, variable by variable; and where its values break a row of the goal, its
 -- multipliers cut it at each number.
-use Rattle.std.proofs.Common.{◌≡◌, ℕ, ◌+◌, ◌*◌, ◌<◌, ◌≤◌, List, [], ◌∷◌, Some, get_or, length, map, ap, refl, sym, ◌∙◌, arith}
-use Rattle.std.specs.Prelude.{Contains, ℤ, pos, ◌+ℤ◌, ◌-ℤ◌, ◌≤ℤ◌, ◌<ℤ◌}
+use Rattle.std.proofs.Common.{◌≡◌, ℕ, zero, suc, ◌+◌, ◌*◌, ◌<◌, ◌≤◌, List, [], ◌∷◌, Some, get_or, length, map, ap, refl, sym, ◌∙◌, arith}
+use Rattle.std.specs.Prelude.{Contains, ℤ, pos, ◌+ℤ◌, ◌-ℤ◌, ◌*ℤ◌, ◌≤ℤ◌, ◌<ℤ◌}
 use Rattle.std.proofs.lemmas.Int.{ints}
 use Rattle.std.proofs.lemmas.List.{length-map}
 use Rattle.mov_base.specs.Sums.{add_up, sum_z}
@@ -16,15 +16,13 @@ use Rattle.goal_rows.specs.Programs.{arc_weight, held_rows, key_weight}
 use Rattle.goal_rows.specs.Races.{IsGroundIn, key_of, keys_of}
 use Rattle.goal_rows.specs.declared.goals.Goal.TheVariants.{Suffix}
 use Rattle.goal_rows.specs.declared.parts.Ground.{Ground}
-use Rattle.goal_rows.specs.declared.weighings.Weighing.{Weighing}
-use Rattle.goal_rows.specs.declared.weighings.Weighing.TheVariants.{Leaving}
 use Rattle.goal_rows.proofs.GroundSizes.{suffix_few, weighings_count}
 use Rattle.dual_bound.specs.CellCuts.{cell_multipliers, features_of, first_broken}
 use Rattle.dual_bound.specs.CutTest.{AreMultipliers, IsBound}
 use Rattle.dual_bound.specs.Weighing.{all_arcs, base_by, cost_by, gain_by, is_arc, is_from, limits_bring, of_limits, of_rows, rows_bring, rows_cost}
 use Rattle.dual_bound.proofs.CellBreaks.{cut_beyond, gain_most, left_is, left_on, one_change}
 use Rattle.dual_bound.proofs.CellCosts.{by_arc, by_key}
-use Rattle.dual_bound.proofs.CellCovers.{arc_weight_at, at_of, base_low, broken_terms, gives, key_at, limits_are, made_most, rows_are, unit_times, weight_is, with_goal}
+use Rattle.dual_bound.proofs.CellCovers.{arc_weight_at, base_low, broken_terms, gives, key_at, limits_are, made_most, rows_are, unit_times, weight_is, with_goal}
 use Rattle.dual_bound.proofs.CellFeatures.{key_there}
 use Rattle.dual_bound.proofs.CellMultipliers.{row_part}
 use Rattle.dual_bound.proofs.CellVariables.{on_arc}
@@ -89,13 +87,19 @@ path_brings start limits ls m path is = by_arcs (λ a. rows_bring m (of_rows sta
 
 -- ---- a row of the goal
 
+-- the item at r, of what is made of it
+made_at : {W X : Type 0} (make : W → X → ℤ) (x : X) (ws : List W) (r : ℕ) → r < length ws → get_or (map (λ w. make w x) ws) r (pos 0) ≡ (get_or (map make ws) r (λ y. pos 0)) x
+made_at make x [] r within = absurd (omega (arith, within))
+made_at make x (w ∷ ws) zero within = refl
+made_at make x (w ∷ ws) (suc r) within = made_at make x ws r (omega (arith, within))
+
 -- the one row with the multiplier 1
-one_row : (f : Weighing → ℤ) (r n : ℕ) (ws : List Weighing) → r < n → r < length ws → mixed f (row_part n (Some r)) ws ≡ f (get_or ws r Leaving)
-one_row f r n ws low within =
-    let m = length-map ws f in
-    sym (sum_z-made (λ v. pos v.0 *ℤ v.1) f (row_part n (Some r)) ws)
-    ∙ unit_times r 0 n r (map f ws) (omega arith) low (omega (arith, m, within))
-    ∙ at_of f ws r (pos 0) Leaving within
+one_row : {W X : Type 0} (make : W → X → ℤ) (x : X) (r n : ℕ) (ws : List W) → r < n → r < length ws → mixed (λ w. make w x) (row_part n (Some r)) ws ≡ (get_or (map make ws) r (λ y. pos 0)) x
+one_row make x r n ws low within =
+    let m = length-map ws (λ w. make w x) in
+    sym (sum_z-made (λ v. pos v.0 *ℤ v.1) (λ w. make w x) (row_part n (Some r)) ws)
+    ∙ unit_times r 0 n r (map (λ w. make w x) ws) (omega arith) low (omega (arith, m, within))
+    ∙ made_at make x ws r within
 
 pub suffix_cut : (e : Election) (start : Ground) (suffix : List ℕ) (limits : List Limit) (r : ℕ) → IsGroundIn e (with_goal start (Suffix suffix))
     → AreLimits e (node_of (with_goal start (Suffix suffix)) limits) → IsCell (with_goal start (Suffix suffix)) limits
@@ -118,20 +122,18 @@ suffix_cut e start suffix limits r is few cell are broken low =
     let within : r < length ws = omega (arith, low, count) in
     let arc : (u x : ℕ) → u < x → x ≤ m → (rows_bring m (of_rows here ls) (u, x) +ℤ limits_bring (is_arc (u, x)) (of_limits here ls) limits) ≤ℤ pos (left (Arc u x)) =
     λ u x begins ends.
-    let row = sym (suffix_arc_worth m (u, x) (of_rows here ls)) ∙ ap (λ xs. mixed (λ w. arc_weight w (u, x)) xs ws) rows ∙ one_row (λ w. arc_weight w (u, x)) r n ws low within in
-    let weighs = ap (λ (f : ℕ × ℕ → ℤ). f (u, x)) (at_of arc_weight ws r (λ a. pos 0) Leaving within) in
+    let row = sym (suffix_arc_worth m (u, x) (of_rows here ls)) ∙ ap (λ xs. mixed (λ w. arc_weight w (u, x)) xs ws) rows ∙ one_row arc_weight (u, x) r n ws low within in
     let bring = ap (λ xs. limits_bring (is_arc (u, x)) xs limits) more ∙ limits_on limits give (Arc u x) (is_arc (u, x)) (by_arc (u, x)) [] limits in
     let w = weight_is e here limits r is cell broken low (Arc u x) ((on_arc here u x).1 (begins, ends)) in
     let change = one_change limits features terms (Arc u x) in
-    omega (arith, ints, row, weighs, bring, w, change) in
+    omega (arith, ints, row, bring, w, change) in
     left_cuts e start suffix limits ls left is few are (base_low e here limits r is cell broken low)
     (λ k path there path_is.
-    let row = ap (λ xs. mixed (λ w. key_weight w k) xs ws) rows ∙ one_row (λ w. key_weight w k) r n ws low within in
+    let row = ap (λ xs. mixed (λ w. key_weight w k) xs ws) rows ∙ one_row key_weight k r n ws low within in
     let cost = suffix_key_worth m k (of_rows here ls) (suffix_few here suffix (e, is) refl) in
-    let weighs = ap (λ (f : ℕ → ℤ). f k) (at_of key_weight ws r (λ k. pos 0) Leaving within) in
     let bring = ap (λ xs. limits_bring (is_from k) xs limits) more ∙ limits_on limits give (From k) (is_from k) (by_key k) [] limits in
     let w = weight_is e here limits r is cell broken low (From k) (key_there e here is.values k there) in
     let change = one_change limits features terms (From k) in
     let brought = path_brings here limits ls m path path_is in
     let arcs = path_at_most m 0 (λ a. rows_bring m (of_rows here ls) a +ℤ limits_bring (is_arc a) (of_limits here ls) limits) (λ a. left (Arc a.0 a.1)) path path_is arc in
-    omega (arith, ints, row, cost, weighs, bring, w, change, brought, arcs))
+    omega (arith, ints, row, cost, bring, w, change, brought, arcs))
