@@ -1,5 +1,5 @@
 -- A cell of a cover whose values break a row of the goal is cut at each number.
-use Rattle.std.proofs.Common.{◌≡◌, ℕ, zero, suc, ◌+◌, ◌*◌, ◌<◌, ◌≤◌, List, [], ◌∷◌, ◌++◌, true, Some, cond, drop, get_or, length, map, take, ap, refl, subst, sym, ◌∙◌, arith}
+use Rattle.std.proofs.Common.{◌≡◌, ℕ, zero, suc, ◌+◌, ◌*◌, ◌<◌, ◌≤◌, List, [], ◌∷◌, ◌++◌, true, Some, cond, drop, get_or, length, map, take, ap, refl, sym, ◌∙◌, arith}
 use Rattle.std.specs.Prelude.{Contains, ℤ, pos, ◌+ℤ◌, ◌-ℤ◌, ◌*ℤ◌, ◌<ℤ◌, int_lt, nat_lt}
 use Rattle.std.specs.List.{list_any, range_with_len}
 use Rattle.std.proofs.Math.IntN.{negsuc}
@@ -9,19 +9,15 @@ use Rattle.std.proofs.lemmas.List.{get_or_append_left, length-append, length-map
 use Rattle.std.proofs.lemmas.List.FromFn.{length-range_with_len}
 use Rattle.std.proofs.lemmas.List.Quantifiers.{position-Some}
 use Rattle.mov_base.specs.Sums.{add_up, sum_z}
-use Rattle.mov_base.proofs.Sums.{add_up-append, add_up-map}
 use Rattle.ballot_form.specs.Scores.{is_some_of}
 use Rattle.irv_count.proofs.Members.{differ_test, same_test}
 use Rattle.row_program.specs.Forms.{empty_row}
 use Rattle.row_program.specs.Points.{row_value}
 use Rattle.row_program.specs.declared.Feature.{Feature}
-use Rattle.row_program.specs.declared.Feature.TheVariants.{From, Arc}
+use Rattle.row_program.specs.declared.Feature.TheVariants.{From}
 use Rattle.row_program.specs.declared.Limit.{Limit}
 use Rattle.row_program.specs.declared.program.Row.{Row}
 use Rattle.row_program.specs.declared.program.Term.{Term}
-use Rattle.signature_class.specs.Classes as classes
-use Rattle.signature_class.proofs.Counts.{keys_are_classes}
-use Rattle.sig_graph.specs.Paths.{arcs_of}
 use Rattle.sig_graph.specs.Rows.{one_where}
 use Rattle.goal_rows.specs.Cells.{IsCell, Variable, cell_values, low_end, variables_of}
 use Rattle.goal_rows.specs.Elections.{Election}
@@ -34,17 +30,15 @@ use Rattle.goal_rows.specs.declared.goals.Goal.TheVariants.{Cover}
 use Rattle.goal_rows.specs.declared.parts.Ground.{Ground}
 use Rattle.goal_rows.proofs.GroundSizes.{goal_rows_count, weighings_count}
 use Rattle.dual_bound.specs.CellCuts.{case_of, cell_multipliers, features_of, first_broken, given_each, given_in, is_broken, is_unbounded, terms_at, times_on}
-use Rattle.dual_bound.specs.CellParts.{variable}
 use Rattle.dual_bound.specs.CutTest.{AreMultipliers, IsBound}
 use Rattle.dual_bound.specs.declared.cell_cuts.Case.TheVariants.{GoalRow, FlowRow}
-use Rattle.dual_bound.specs.Sizes.{places_of}
 use Rattle.dual_bound.specs.Weighing.{IsBestNew, base_by, cost_by, gain_by, is_from, limit_start, limits_bring, of_limits, of_rows, over_weight, times_all}
 use Rattle.dual_bound.proofs.CellBreaks.{all_base, cut_beyond, gain_most, left_is, left_on, one_change, weight}
 use Rattle.dual_bound.proofs.CellCosts.{by_key, drop_front, take_front}
 use Rattle.dual_bound.proofs.CellFeatures.{counted_once, key_there}
 use Rattle.dual_bound.proofs.CellMultipliers.{row_part}
 use Rattle.dual_bound.proofs.CellRowValues.{row_in_cell, row_of_items, sum_z-map, times_are, weight_on, weights_are, weights_over}
-use Rattle.dual_bound.proofs.CellVariables.{map_twice, on_class, variables_are}
+use Rattle.dual_bound.proofs.CellVariables.{map_twice}
 use Rattle.dual_bound.proofs.Exact.{bound_is_exact, grouped_keys}
 use Rattle.dual_bound.proofs.GivenLimits.{kept_at, limits_base, limits_on}
 

@@ -1,5 +1,5 @@
 -- A cell of a suffix whose values break a row of the flow, and none of the goal: its multipliers cut it at each number.
-use Rattle.std.proofs.Common.{◌≡◌, ℕ, zero, suc, ◌+◌, ◌*◌, ◌<◌, ◌≤◌, List, [], ◌∷◌, ◌++◌, Bool, true, false, Some, cond, drop, get_or, length, map, take, ap, refl, subst, sym, ◌∙◌, inl, inr, arith, All}
+use Rattle.std.proofs.Common.{◌≡◌, ℕ, zero, suc, ◌+◌, ◌*◌, ◌<◌, ◌≤◌, List, [], ◌∷◌, ◌++◌, Bool, true, false, Some, cond, drop, get_or, length, map, take, ap, refl, subst, sym, ◌∙◌, inl, inr, arith}
 use Rattle.std.specs.Prelude.{Contains, ◌==◌, ◌&&◌, ◌||◌, not, nat_lt, int_lt, slice_index, ℤ, pos, ◌+ℤ◌, ◌-ℤ◌, ◌*ℤ◌, ◌≤ℤ◌, ◌<ℤ◌}
 use Rattle.std.specs.List.{list_any, range_with_len}
 use Rattle.std.proofs.lemmas.Bool.{cases_Bool}
@@ -18,7 +18,7 @@ use Rattle.row_program.specs.declared.Feature.TheVariants.{From, Arc}
 use Rattle.row_program.specs.declared.Limit.{Limit}
 use Rattle.row_program.specs.declared.program.Row.{Row}
 use Rattle.row_program.specs.declared.program.Term.{Term}
-use Rattle.sig_graph.specs.Paths.{IsPath, arcs_of, path_arcs}
+use Rattle.sig_graph.specs.Paths.{arcs_of, path_arcs}
 use Rattle.sig_graph.specs.Rows.{one_where}
 use Rattle.goal_rows.specs.Cells.{IsCell, Variable, cell_values, low_end, same_feature, variables_of}
 use Rattle.goal_rows.specs.Elections.{Election}
@@ -34,7 +34,7 @@ use Rattle.dual_bound.specs.CellParts.{IsFixed}
 use Rattle.dual_bound.specs.CutTest.{AreMultipliers, IsBound}
 use Rattle.dual_bound.specs.declared.cell_cuts.Case.{Case}
 use Rattle.dual_bound.specs.declared.cell_cuts.Case.TheVariants.{FlowRow, GoalRow}
-use Rattle.dual_bound.specs.Weighing.{all_arcs, base_by, cost_by, is_arc, is_from, limit_start, limits_bring, of_limits, of_rows, rows_bring, rows_cost, times_all}
+use Rattle.dual_bound.specs.Weighing.{base_by, is_arc, is_from, limit_start, limits_bring, of_limits, of_rows, rows_bring, times_all}
 use Rattle.dual_bound.proofs.CellBreaks.{at_end, at_none, gain_most, held_base, held_change, is_held_low, is_held_up, left_is, left_on, times_parts, two_parts, weight}
 use Rattle.dual_bound.proofs.CellCosts.{AreZeros, by_arc, by_key, cost_none, drop_front, none_times, rows_none, take_front, zeros_times}
 use Rattle.dual_bound.proofs.CellCovers.{at_of, below_by, off_row, sums_on, with_goal}
@@ -42,7 +42,7 @@ use Rattle.dual_bound.proofs.CellFeatures.{counted_once, key_there}
 use Rattle.dual_bound.proofs.CellMultipliers.{row_part}
 use Rattle.dual_bound.proofs.CellRowValues.{row_in_cell, sum_z-map, times_are, weight_on, weights_are, weights_over}
 use Rattle.dual_bound.proofs.CellSuffixes.{left_cuts, path_brings}
-use Rattle.dual_bound.proofs.CellVariables.{on_arc, on_class, values_are}
+use Rattle.dual_bound.proofs.CellVariables.{on_arc, values_are}
 use Rattle.dual_bound.proofs.FlowRows.{IsFlowRow, flow_arc, flow_key, flow_row, flow_row_at, flow_rows_count}
 use Rattle.dual_bound.proofs.Exact.{grouped_keys}
 use Rattle.dual_bound.proofs.GivenLimits.{and_left, and_right, eq_test, got, kept_at, limits_base, limits_on, lower, upper}

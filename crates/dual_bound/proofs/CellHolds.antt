@@ -18,19 +18,15 @@ use Rattle.row_program.specs.declared.Limit.{Limit}
 use Rattle.row_program.specs.declared.program.Row.{Row}
 use Rattle.goal_rows.specs.Cells.{IsCell, Variable, cell_values, high_end, low_end, same_feature, variables_of}
 use Rattle.goal_rows.specs.Elections.{Election}
-use Rattle.goal_rows.specs.Nodes.{AreLimits, node_of}
 use Rattle.goal_rows.specs.Programs.{IsPointOf, class_row, class_rows_of, flow_rows_of, goal_rows_of, has_ends, has_key, limit_rows_of, one_more_in, program_rows, row_by, value_before}
 use Rattle.goal_rows.specs.Races.{IsGroundIn}
-use Rattle.goal_rows.specs.declared.goals.Goal.{Goal}
-use Rattle.goal_rows.specs.declared.goals.Goal.TheVariants.{Root, Suffix, Pair, Cover}
 use Rattle.goal_rows.specs.declared.parts.Ground.{Ground}
 use Rattle.goal_rows.proofs.GroundSizes.{goal_rows_count}
-use Rattle.dual_bound.specs.CellCuts.{cell_multipliers, features_of, first_broken, is_broken}
+use Rattle.dual_bound.specs.CellCuts.{features_of, first_broken, is_broken}
 use Rattle.dual_bound.specs.CellParts.{variable}
-use Rattle.dual_bound.specs.CutTest.{AreMultipliers, IsBound}
 use Rattle.dual_bound.proofs.CellBreaks.{times_parts}
 use Rattle.dual_bound.proofs.CellCosts.{arc_values, class_values}
-use Rattle.dual_bound.proofs.CellCovers.{at_of, cover_cut, with_goal}
+use Rattle.dual_bound.proofs.CellCovers.{at_of}
 use Rattle.dual_bound.proofs.CellEnds.{high_below}
 use Rattle.dual_bound.proofs.CellFeatures.{counted_once}
 use Rattle.dual_bound.proofs.CellRowValues.{row_in_cell, weight_on, weights_over}

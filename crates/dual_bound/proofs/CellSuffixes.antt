@@ -19,10 +19,10 @@ use Rattle.goal_rows.specs.declared.parts.Ground.{Ground}
 use Rattle.goal_rows.proofs.GroundSizes.{suffix_few, weighings_count}
 use Rattle.dual_bound.specs.CellCuts.{cell_multipliers, features_of, first_broken}
 use Rattle.dual_bound.specs.CutTest.{AreMultipliers, IsBound}
-use Rattle.dual_bound.specs.Weighing.{all_arcs, base_by, cost_by, gain_by, is_arc, is_from, limits_bring, of_limits, of_rows, rows_bring, rows_cost}
+use Rattle.dual_bound.specs.Weighing.{all_arcs, base_by, cost_by, gain_by, is_arc, is_from, limits_bring, of_limits, of_rows, rows_bring}
 use Rattle.dual_bound.proofs.CellBreaks.{cut_beyond, gain_most, left_is, left_on, one_change}
 use Rattle.dual_bound.proofs.CellCosts.{by_arc, by_key}
-use Rattle.dual_bound.proofs.CellCovers.{arc_weight_at, base_low, broken_terms, gives, key_at, limits_are, made_most, rows_are, unit_times, weight_is, with_goal}
+use Rattle.dual_bound.proofs.CellCovers.{base_low, broken_terms, gives, limits_are, made_most, rows_are, unit_times, weight_is, with_goal}
 use Rattle.dual_bound.proofs.CellFeatures.{key_there}
 use Rattle.dual_bound.proofs.CellMultipliers.{row_part}
 use Rattle.dual_bound.proofs.CellVariables.{on_arc}
