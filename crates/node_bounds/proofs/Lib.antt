@@ -1,6 +1,4 @@
-pub mod SideBySide
 pub mod RowValues
-pub mod HeldPlaces
 pub mod KeyWorths
 pub mod ArcSums
 pub mod RestRows

@@ -20,7 +20,7 @@ use Rattle.dual_bound.specs.WeighingParts.{gains_by}
 use Rattle.node_bounds.proofs.RestRows.{AreWithin, IsMetAt, classes_met}
 use Rattle.node_bounds.proofs.RowValues.{AreCounted, AreNumbersOf, key_worth, kept_value, rows_kept}
 use Rattle.node_bounds.proofs.TakenGains.{AreGaining, gained}
-use Rattle.node_bounds.proofs.SideBySide.{one_time}
+use Rattle.dual_bound.proofs.SideBySide.{one_time}
 use Rattle.node_bounds.proofs.Worths.{AreWorths, IsCutOff}
 
 -- ---- the numbers of a point

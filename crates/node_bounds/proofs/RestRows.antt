@@ -17,7 +17,7 @@ use Rattle.goal_rows.specs.Programs.{class_row, class_rows_of, flow_weighings, r
 use Rattle.goal_rows.specs.declared.goals.Goal.TheVariants.{Suffix}
 use Rattle.node_bounds.proofs.ArcSums.{leaving_counts, through_counts}
 use Rattle.node_bounds.proofs.RowValues.{AreNumbers, counting_value}
-use Rattle.node_bounds.proofs.SideBySide.{times_none, times_ones}
+use Rattle.dual_bound.proofs.SideBySide.{times_none, times_ones}
 
 -- the row is at least 0 there
 abbrev pub IsMetAt : List ℕ → ℕ → Row → Type 0
