@@ -13,3 +13,7 @@ pub mod RootPairs
 pub mod StartNumbers
 pub mod TurnedRounds
 pub mod Nearby
+pub mod LowNumbers
+pub mod ReplacedSums
+pub mod PointParts
+pub mod PointsMet

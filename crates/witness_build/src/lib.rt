@@ -17,6 +17,8 @@
 mod cells;
 mod chosen;
 mod covers;
+mod ends;
+mod from_points;
 mod laws;
 mod levels;
 mod pairs;
@@ -26,6 +28,8 @@ mod walks;
 
 pub use cells::cell_point;
 pub use covers::cover_witness;
+pub use ends::{End, Found};
+pub use from_points::from_point;
 pub use laws::{a_start_witness_has_the_start_number, no_shorter_alteration_meets_a_root_pair};
 pub use pairs::{Witness, pair_witness};
 pub use rounds::last_round;
