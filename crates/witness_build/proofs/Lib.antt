@@ -17,3 +17,5 @@ pub mod LowNumbers
 pub mod ReplacedSums
 pub mod PointParts
 pub mod PointsMet
+pub mod LowRuns
+pub mod PointWitness

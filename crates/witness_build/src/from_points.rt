@@ -1,5 +1,5 @@
 // The replacements that a point stands for.
-ghost use Rattle.std.specs.Prelude.{◌≡◌, ◌≤◌, ℕ, [], ◌<◌, All, Contains, IfOk, length, map, replicate, slice_index_or, ◌∷◌};
+ghost use Rattle.std.specs.Prelude.{◌≡◌, ◌≢◌, ◌≤◌, ℕ, [], ◌<◌, All, Contains, IfOk, length, map, replicate, slice_index_or, ◌∷◌};
 ghost use Rattle.std.specs.List.{zip};
 ghost use Rattle.alteration_model.specs.Faults.{pairs_of};
 ghost use Rattle.ballot_form.specs.Ballots.{AreDistinct};
@@ -7,9 +7,9 @@ ghost use Rattle.sig_graph.specs.Flows.{IsFlow};
 ghost use Rattle.sig_graph.specs.Paths.{IsPath, ballot_of};
 ghost use Rattle.sig_graph.specs.Walks.{split_of};
 ghost use Rattle.signature_class.specs.Classes.{keys_of};
-ghost use Rattle.goal_rows.specs.Goals.{IsComplete};
-ghost use Rattle.goal_rows.specs.Races.{IsGroundIn, IsRace, election_of};
-ghost use Rattle.witness_build.specs.FromPoints.{IsPointWithout, arcs_at, changes_at, new_ballots as ballots_by};
+ghost use Rattle.goal_rows.specs.Goals.{IsComplete, IsReached};
+ghost use Rattle.goal_rows.specs.Races.{IsGroundIn, IsRace, IsSomeGround, election_of};
+ghost use Rattle.witness_build.specs.FromPoints.{IsFlowUnder, IsPointWithout, arcs_at, changes_at, new_ballots as ballots_by};
 ghost use Rattle.witness_build.specs.FromPoints.{replaced_at, replaced_numbers as numbers_at};
 ghost use Rattle.witness_build.specs.Witnesses.{IsMetBy};
 
@@ -50,7 +50,7 @@ pub fn from_point(
 {
     let numbers = replaced_numbers(alloc, race, start, point.whole.as_slice())?;
     let flow = flow_of(alloc, start, point.whole.as_slice())?;
-    let ballots = new_ballots(alloc, &start.goal, flow.as_slice(), numbers.len() as u32)?;
+    let ballots = new_ballots(alloc, start, flow.as_slice(), numbers.len() as u32)?;
     let puts = puts_of(alloc, numbers.as_slice(), ballots.as_slice())?;
     let changes = Alteration::from_puts(alloc, race.roll, puts.as_slice())?;
     let goal = start.goal.copy()?;
@@ -66,6 +66,7 @@ fn replaced_numbers(
 ) -> Result<NumberList, Memory>
     requires race { IsRace race.now }
     requires start { IsGroundIn (election_of race.now) start.now }
+    requires complete { IsComplete (election_of race.now) start.now.goal }
     requires point { IsPointWithout start.now whole.now }
     ensures { IfOk result (λ numbers. numbers ≡ numbers_at (election_of race.now) start.now whole.now) }
 {
@@ -80,11 +81,12 @@ fn replaced_numbers(
     Ok(List::from_vec(numbers))
 }
 
-/// The place of the class of a key, from 0.
+/// The place, from 0, of the first class with a key.
 fn class_of(classes: &Classes, key: u64) -> usize
     requires { Contains (keys_of classes.now) key }
     ensures within { result < length classes.now }
     ensures key { (slice_index_or classes.now result (0, 0)).0 ≡ key }
+    ensures first { (k : ℕ) → k < result → (slice_index_or classes.now k (0, 0)).0 ≢ key }
 {
     for i in 0..classes.len() {
         if classes.key(i) == key {
@@ -97,7 +99,8 @@ fn class_of(classes: &Classes, key: u64) -> usize
 /// What the point says of the arcs. The numbers of a whole point of a program without limits fit: no arc has more than
 /// there are ballots.
 fn flow_of(alloc: Global, start: &Ground, whole: &[u64]) -> Result<Vec<u32>, Memory>
-    requires { IsPointWithout start.now whole.now }
+    requires start { IsSomeGround start.now }
+    requires point { IsPointWithout start.now whole.now }
     ensures { IfOk result (λ flow. flow.items ≡ arcs_at start.now whole.now) }
 {
     let mut flow = Vec::new(alloc);
@@ -108,10 +111,12 @@ fn flow_of(alloc: Global, start: &Ground, whole: &[u64]) -> Result<Vec<u32>, Mem
 }
 
 /// So many new ballots of the goal.
-fn new_ballots(alloc: Global, goal: &Goal, flow: &[u32], total: u32) -> Result<BallotList, Memory>
-    ensures { IfOk result (λ ballots. ballots ≡ ballots_by goal.now flow.now total) }
+fn new_ballots(alloc: Global, start: &Ground, flow: &[u32], total: u32) -> Result<BallotList, Memory>
+    requires start { IsSomeGround start.now }
+    requires flow { IsFlowUnder start.now.goal flow.now total }
+    ensures { IfOk result (λ ballots. ballots ≡ ballots_by start.now.goal flow.now total) }
 {
-    match goal {
+    match &start.goal {
         Goal::Root => Ok(List::new(alloc)),
         Goal::Suffix(suffix) => path_ballots(alloc, suffix.as_slice(), flow, total),
         Goal::Pair(x, _) | Goal::Cover(x) => lone_ballots(alloc, *x, total),
