@@ -111,7 +111,7 @@ left_next cs wanted seen left key so_far other = elim (cases_eq key other) [
 less_test : (a b : ℕ) → nat_lt a b ≡ nat_lt 0 (b - a)
 less_test a b = elim (cases_lt a b) [
   | inl less ↦ lt-ltb a b less ∙ sym (lt-ltb 0 (b - a) (omega (arith, less)))
-  | inr no ↦ le-ltb a b no ∙ sym (le-ltb 0 (b - a) (omega (arith, no)))
+  | inr at_least ↦ le-ltb a b at_least ∙ sym (le-ltb 0 (b - a) (omega (arith, at_least)))
 ]
 
 -- whether the first ballot behind those that are seen is low

@@ -3,7 +3,8 @@ use Rattle.std.proofs.Common.{ℕ, zero, suc, List, [], ◌∷◌, ◌++◌, ◌
 use Rattle.std.specs.Prelude.{Contains, nat_eq}
 use Rattle.std.specs.List.{range_with_len}
 use Rattle.std.proofs.Math.ListN.{set}
-use Rattle.std.proofs.lemmas.List.Elements.{All-contains_itself, All-head, All-map, All-weaker}
+use Rattle.std.proofs.lemmas.List.{length-set}
+use Rattle.std.proofs.lemmas.List.Elements.{All-cons, All-contains_itself, All-head, All-nil, All-tail, All-weaker}
 use Rattle.ballot_form.specs.Runs.{IsFirstRun, Left}
 use Rattle.ballot_form.specs.declared.runs.Run.{Run}
 use Rattle.signature_class.specs.Classes.{keys_of}
@@ -29,12 +30,9 @@ abbrev pub HaveClasses : Election → Ground → List (List ℕ) → Type 0
 HaveClasses e start ballots = All (λ ballot. Contains (keys_of start.classes) (key_of e start.goal ballot)) ballots
 
 unmapped : {A B : Type 0} (P : B → Type 0) (f : A → B) (xs : List A) → All P (map f xs) → All (λ x. P (f x)) xs
-unmapped P f [] all = λ k d lt. absurd (omega (arith, lt))
-unmapped P f (x ∷ xs) all = λ k d lt. at k d lt
-  where
-    at : (k : ℕ) (d : _) → k < length (x ∷ xs) → P (f (get_or (x ∷ xs) k d))
-    at zero d lt = all 0 (f d) (omega arith)
-    at (suc k) d lt = unmapped P f xs (λ j e less. all (suc j) e (omega (arith, less))) k d (omega (arith, lt))
+unmapped P f [] all = All-nil (λ x. P (f x))
+unmapped P f (x ∷ xs) all =
+    All-cons (λ x. P (f x)) x xs (All-head P (f x) (map f xs) all) (unmapped P f xs (All-tail P (f x) (map f xs) all))
 
 pub all_have : (e : Election) (start : Ground) → IsGroundIn e start → (start.goal ≡ Root → ⊥) → HaveClasses e start e.poll.ballots
 all_have e start is not_root =
@@ -65,26 +63,30 @@ pub record IsLowSoFar (e : Election) (start : Ground) (whole numbers left : List
   pub long : length left ≡ length whole
   pub have : HaveClasses e start rest.ballots
 
-pub none_so_far : (e : Election) (start : Ground) (whole : List ℕ) (rest : Left) → IsGroundIn e start → (start.goal ≡ Root → ⊥)
-    → rest.first ≡ 1 → rest.ballots ≡ e.poll.ballots → IsLowSoFar e start whole [] whole rest
-none_so_far e start whole rest is not_root first all = record {
-  picked =
-      ap (λ i. low_by start.classes whole i (map (key_of e start.goal) rest.ballots)) first
-      ∙ ap (λ bs. low_by start.classes whole 1 (map (key_of e start.goal) bs)) all
-      ∙ ap (low_by start.classes whole 1) (sym (keys_are e start.goal not_root))
-      ∙ low_is start.classes (number_for start.classes whole) whole (ballot_keys e start.goal) (λ key. refl);
-  long = refl;
-  have = subst (HaveClasses e start) (sym all) (all_have e start is not_root);
-}
+pub none_so_far : (e : Election) (start : Ground) (whole numbers left : List ℕ) (rest : Left) → IsGroundIn e start → (start.goal ≡ Root → ⊥)
+    → numbers ≡ [] → left ≡ whole → rest.first ≡ 1 → rest.ballots ≡ e.poll.ballots → IsLowSoFar e start whole numbers left rest
+none_so_far e start whole numbers left rest is not_root none same first all =
+    let keys = map (key_of e start.goal) in
+    record {
+      picked =
+          ap (λ ns. ns ++ low_by start.classes left rest.first (keys rest.ballots)) none
+          ∙ ap (λ xs. low_by start.classes xs rest.first (keys rest.ballots)) same
+          ∙ ap (λ i. low_by start.classes whole i (keys rest.ballots)) first
+          ∙ ap (λ bs. low_by start.classes whole 1 (keys bs)) all
+          ∙ ap (low_by start.classes whole 1) (sym (keys_are e start.goal not_root))
+          ∙ low_is start.classes (number_for start.classes whole) whole (ballot_keys e start.goal) (λ key. refl);
+      long = ap length same;
+      have = subst (HaveClasses e start) (sym all) (all_have e start is not_root);
+    }
 
-pub run_more : (e : Election) (start : Ground) (whole numbers more left : List ℕ) (p m key : ℕ) (old : Left) (run : Run) (new : Left) → IsFirstRun old run new
-    → key ≡ key_of e start.goal run.row.now → IsFirstAt start.classes p key → m ≡ min (get_or left p 0) run.count
-    → more ≡ numbers ++ range_with_len run.first m → length (set left p (get_or left p 0 - m)) ≡ length left
-    → IsLowSoFar e start whole numbers left old → IsLowSoFar e start whole more (set left p (get_or left p 0 - m)) new
-run_more e start whole numbers more left p m key old run new is key_is at fewer added same so_far =
+pub run_more : (e : Election) (start : Ground) (whole numbers more left : List ℕ) (p v m key : ℕ) (old : Left) (run : Run) (new : Left) → IsFirstRun old run new
+    → key ≡ key_of e start.goal run.row.now → IsFirstAt start.classes p key → v ≡ get_or left p 0 → m ≡ min v run.count
+    → more ≡ numbers ++ range_with_len run.first m
+    → IsLowSoFar e start whole numbers left old → IsLowSoFar e start whole more (set left p (v - m)) new
+run_more e start whole numbers more left p v m key old run new is key_is at value fewer added so_far =
     let cs = start.classes in
     let keys = map (key_of e start.goal) in
-    let later = set left p (get_or left p 0 - m) in
+    let later = set left p (v - m) in
     let wanted = number_at cs left p key at in
     let begins : keys old.ballots ≡ replicate run.count key ++ keys new.ballots =
     ap keys is.joined ∙ map_equal (key_of e start.goal) run.count run.row.now new.ballots ∙ ap (λ k. replicate run.count k ++ keys new.ballots) (sym key_is) in
@@ -92,15 +94,15 @@ run_more e start whole numbers more left p m key old run new is key_is at fewer 
     let step : low_by cs left old.first (keys old.ballots) ≡ range_with_len run.first m ++ low_by cs later new.first (keys new.ballots) =
     ap (λ i. low_by cs left i (keys old.ballots)) (sym is.numbered)
     ∙ ap (low_by cs left run.first) begins
-    ∙ low_run cs left (keys new.ballots) run.first run.count m key (omega (arith, fewer)) (omega (arith, fewer, wanted)) (λ lt. omega (arith, fewer, wanted, lt))
-    ∙ ap (λ xs. range_with_len run.first m ++ low_by cs xs (run.first + run.count) (keys new.ballots)) (taken_at cs left p key m at)
+    ∙ low_run cs left (keys new.ballots) run.first run.count m key (omega (arith, fewer)) (omega (arith, fewer, value, wanted)) (λ lt. omega (arith, fewer, value, wanted, lt))
+    ∙ ap (λ xs. range_with_len run.first m ++ low_by cs xs (run.first + run.count) (keys new.ballots)) (taken_at cs left p key m at ∙ ap (λ n. set left p (n - m)) (sym value))
     ∙ ap (λ i. range_with_len run.first m ++ low_by cs later i (keys new.ballots)) behind in
     record {
       picked =
           ap (λ ns. ns ++ low_by cs later new.first (keys new.ballots)) added
           ∙ append_assoc numbers (range_with_len run.first m) (low_by cs later new.first (keys new.ballots))
           ∙ ap (λ ns. numbers ++ ns) (sym step) ∙ so_far.picked;
-      long = same ∙ so_far.long;
+      long = length-set left p (v - m) ∙ so_far.long;
       have = all_back (λ ballot. Contains (keys_of cs) (key_of e start.goal ballot)) (replicate run.count run.row.now) new.ballots
           (subst (HaveClasses e start) is.joined so_far.have);
     }

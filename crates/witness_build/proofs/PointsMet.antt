@@ -27,7 +27,6 @@ use Rattle.goal_rows.specs.Suffixes.{cover_rows, others, suffix_rows}
 use Rattle.goal_rows.specs.declared.goals.Goal.{Goal}
 use Rattle.goal_rows.specs.declared.goals.Goal.TheVariants.{Root, Suffix, Pair, Cover}
 use Rattle.goal_rows.specs.declared.parts.Ground.{Ground}
-use Rattle.goal_rows.specs.declared.weighings.Weighing.TheVariants.{Level, Over}
 use Rattle.goal_rows.proofs.GroundSizes.{cover_few, goal_rows_count, suffix_few, weighings_count}
 use Rattle.goal_rows.proofs.PairPoints.{ArePairPoints, pair_points}
 use Rattle.goal_rows.proofs.Ways.{reached_cover, reached_pair, reached_suffix}
@@ -149,6 +148,9 @@ suffix_brought e start suffix ls ys total is all flow =
           omega (arith, ints, apart, each, split, arcs, none);
     }
 
+one_row : {W : Type 0} (f : W → ℤ) (k : ℕ) (w : W) → mixed f (k ∷ []) (w ∷ []) ≡ pos k *ℤ f w
+one_row f k w = omega (arith, ints)
+
 pair_key : (p m top : ℕ) → m ≤ 1024 → p ≤ top → pos p -ℤ pos m ≡ pos top -ℤ pos ((top + 1024) - ((p + 1024) - m))
 pair_key p m top low high = omega (arith, ints, low, high)
 
@@ -173,10 +175,9 @@ pair_brought e start g l (k ∷ []) ys total is all one =
           let p = gainer_points e g l ballot in
           let m = loser_points e g l ballot in
           let key = (p + 1024) - m in
-          let counted : mixed (λ w. key_weight w key) (of_rows here (k ∷ [])) (weighings_of here) ≡ pos k *ℤ pos ((top + 1024) - key) =
-          ap (λ rows. mixed (λ w. key_weight w key) rows (weighings_of here)) all
-          ∙ ap (λ best. mixed (λ w. key_weight w key) (k ∷ []) (Level best ∷ [])) level
-          ∙ omega (arith, ints) in
+          let row : mixed (λ w. key_weight w key) (k ∷ []) (weighings_of here) ≡ pos k *ℤ pos (unsigned_abs (start.lone +ℤ pos 1024) - key) =
+          one_row (λ w. key_weight w key) k _ in
+          let counted = ap (λ rows. mixed (λ w. key_weight w key) rows (weighings_of here)) all ∙ row ∙ ap (λ best. pos k *ℤ pos (best - key)) level in
           let more = no_limit (limit_key key) (of_limits here (k ∷ [])) in
           let weight = ap (λ z. pos k *ℤ z) (pair_key p m top (points.low ballot) (points.high ballot)) in
           let apart = minus_inside k (pos top) (pos ((top + 1024) - key)) in
@@ -200,7 +201,7 @@ cover_brought e start x ls ys total is all long =
     let rows = of_rows here ls in
     let js = others (length start.sums + 1) x in
     let others_are : js ≡ others c x = ap (λ n. others n x) few.0 in
-    let js_long : length js ≡ length start.sums = sym (length-map js (λ j. Over x j)) ∙ weighings_count here (e, is) in
+    let js_long : length js ≡ length start.sums = sym (length-map js _) ∙ weighings_count here (e, is) in
     let all_long : length ls ≡ length (others c x) = long ∙ sym js_long ∙ ap length others_are in
     record {
       extra = pos (add_up (λ l. l) ls);

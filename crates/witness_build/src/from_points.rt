@@ -162,7 +162,6 @@ fn lone_ballots(alloc: Global, x: Cand, total: u32) -> Result<BallotList, Memory
 
 /// Each of the ballots with these numbers gets the new ballot at its place.
 fn puts_of(alloc: Global, numbers: &[u32], ballots: &[CandList]) -> Result<Vec<Put>, Memory>
-    requires { length numbers.now ≡ length ballots.now }
     ensures { IfOk result (λ puts. pairs_of puts.items ≡ zip numbers.now ballots.now) }
 {
     let mut puts = Vec::with_capacity(alloc, numbers.len())?;
