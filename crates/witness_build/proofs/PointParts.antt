@@ -63,6 +63,20 @@ parts_of start whole point =
       met = met;
     }
 
+-- what it says of the arcs is a flow, of as many as it costs
+pub flow_at_point : (start : Ground) (whole : List ℕ) → IsPointWithout start whole → IsFlowUnder start.goal (arcs_at start whole) (replaced_at start whole)
+flow_at_point start whole point =
+    let parts = parts_of start whole point in
+    subst (IsFlowUnder start.goal (arcs_at start whole)) (sym parts.cost)
+    (subst (λ ys. IsFlowUnder start.goal ys (add_up (λ x. x) parts.xs)) (sym parts.arcs) parts.flow)
+
+-- the classes' numbers stand first
+pub classes_first : (start : Ground) (whole : List ℕ) → IsPointWithout start whole → length start.classes ≤ length whole
+classes_first start whole point =
+    let parts = parts_of start whole point in
+    let both = length-append parts.xs parts.ys in
+    omega (arith, both, ap length parts.is, parts.numbers.of_classes)
+
 -- ---- few ballots are replaced
 
 sum_within : (cs : List (ℕ × ℕ)) (xs : List ℕ) → length xs ≡ length cs → AreWithin 1 cs xs → add_up (λ x. x) xs ≤ add_up (λ (c : ℕ × ℕ). c.1) cs

@@ -3,6 +3,7 @@
 use Rattle.std.proofs.Common.{ℕ, zero, suc, List, [], ◌∷◌, ◌++◌, ◌≡◌, ◌<◌, ◌≤◌, ◌+◌, ◌-◌, ◌*◌, ◌∙◌, length, get_or, map, replicate, take, ap, sym, refl, subst, arith, All}
 use Rattle.std.specs.Prelude.{ℤ, pos, ◌+ℤ◌, ◌-ℤ◌, ◌*ℤ◌, ◌≤ℤ◌, unsigned_abs}
 use Rattle.std.specs.List.{zip}
+use Rattle.std.proofs.Math.IntN.{negsuc}
 use Rattle.std.proofs.Math.Seq.{take-length}
 use Rattle.std.proofs.lemmas.Int.{ints}
 use Rattle.std.proofs.lemmas.List.{length-map, length-replicate}
@@ -148,8 +149,15 @@ suffix_brought e start suffix ls ys total is all flow =
           omega (arith, ints, apart, each, split, arcs, none);
     }
 
-one_row : {W : Type 0} (f : W → ℤ) (k : ℕ) (w : W) → mixed f (k ∷ []) (w ∷ []) ≡ pos k *ℤ f w
-one_row f k w = omega (arith, ints)
+one_row : {W : Type 0} (f : W → ℤ) (rows : List ℕ) (w : W) → length rows ≡ 1 → mixed f rows (w ∷ []) ≡ pos (get_or rows 0 0) *ℤ f w
+one_row f [] w one = absurd (omega (arith, one))
+one_row f (k ∷ []) w one = omega (arith, ints)
+one_row f (k ∷ j ∷ rows) w one = absurd (omega (arith, one))
+
+one_value : (rows : List ℕ) (v : ℤ) → length rows ≡ 1 → times_all rows (v ∷ []) ≡ pos (get_or rows 0 0) *ℤ v
+one_value [] v one = absurd (omega (arith, one))
+one_value (k ∷ []) v one = omega (arith, ints)
+one_value (k ∷ j ∷ rows) v one = absurd (omega (arith, one))
 
 pair_key : (p m top : ℕ) → m ≤ 1024 → p ≤ top → pos p -ℤ pos m ≡ pos top -ℤ pos ((top + 1024) - ((p + 1024) - m))
 pair_key p m top low high = omega (arith, ints, low, high)
@@ -159,34 +167,31 @@ pair_level lone top is = ap (λ z. unsigned_abs (z +ℤ pos 1024)) is
 
 pair_brought : (e : Election) (start : Ground) (g l : ℕ) (ls ys : List ℕ) (total : ℕ) → IsGroundIn e (with_goal start (Pair g l))
     → of_rows start ls ≡ ls → length ls ≡ 1 → AreBrought e (with_goal start (Pair g l)) ls ys total
-pair_brought e start g l [] ys total is all one = absurd (omega (arith, one))
-pair_brought e start g l (k ∷ j ∷ ls) ys total is all one = absurd (omega (arith, one))
-pair_brought e start g l (k ∷ []) ys total is all one =
+pair_brought e start g l ls ys total is all one =
     let here = with_goal start (Pair g l) in
     let points = pair_points e g l is.election (reached_pair e g l is.election.roots is.reached).1 in
     let top = gainer_points e g l (g ∷ []) in
+    let first = get_or ls 0 0 in
     let none = points.none in
-    let lone : start.lone ≡ pos top = is.values.lone ∙ omega (arith, ints, none) in
     let alone : pair_weight e g l (g ∷ []) ≡ pos top = omega (arith, ints, none) in
-    let level = pair_level start.lone top lone in
+    let level = pair_level start.lone top (is.values.lone ∙ alone) in
     record {
-      extra = pos k *ℤ pos top;
+      extra = pos first *ℤ pos top;
       old = λ ballot.
           let p = gainer_points e g l ballot in
           let m = loser_points e g l ballot in
           let key = (p + 1024) - m in
-          let row : mixed (λ w. key_weight w key) (k ∷ []) (weighings_of here) ≡ pos k *ℤ pos (unsigned_abs (start.lone +ℤ pos 1024) - key) =
-          one_row (λ w. key_weight w key) k _ in
-          let counted = ap (λ rows. mixed (λ w. key_weight w key) rows (weighings_of here)) all ∙ row ∙ ap (λ best. pos k *ℤ pos (best - key)) level in
-          let more = no_limit (limit_key key) (of_limits here (k ∷ [])) in
-          let weight = ap (λ z. pos k *ℤ z) (pair_key p m top (points.low ballot) (points.high ballot)) in
-          let apart = minus_inside k (pos top) (pos ((top + 1024) - key)) in
-          omega (arith, ints, counted, more, weight, apart);
+          let row : mixed (λ w. key_weight w key) ls (weighings_of here) ≡ pos first *ℤ pos (unsigned_abs (start.lone +ℤ pos 1024) - key) =
+          one_row (λ w. key_weight w key) ls _ one in
+          let counted = ap (λ rows. mixed (λ w. key_weight w key) rows (weighings_of here)) all ∙ row ∙ ap (λ best. pos first *ℤ pos (best - key)) level in
+          let more = no_limit (limit_key key) (of_limits here ls) in
+          let own = one_value ls (pair_weight e g l ballot) one in
+          let weight = ap (λ z. pos first *ℤ z) (pair_key p m top (points.low ballot) (points.high ballot)) in
+          let apart = minus_inside first (pos top) (pos ((top + 1024) - key)) in
+          omega (arith, ints, counted, more, own, weight, apart);
       new =
-          let same = sum_same (worth (k ∷ []) (pair_weight e g l ∷ [])) (g ∷ []) total in
-          let one_worth : worth (k ∷ []) (pair_weight e g l ∷ []) (g ∷ []) ≡ pos k *ℤ pos top =
-          let first = ap (λ z. pos k *ℤ z) alone in omega (arith, ints, first) in
-          let each = ap (λ z. pos total *ℤ z) one_worth in
+          let same = sum_same (worth ls (pair_weight e g l ∷ [])) (g ∷ []) total in
+          let each = ap (λ z. pos total *ℤ z) (one_value ls (pair_weight e g l (g ∷ [])) one ∙ ap (λ z. pos first *ℤ z) alone) in
           let no_arcs = zip_none (λ v. pos v.0 *ℤ v.1) ys in
           omega (arith, ints, same, each, no_arcs);
     }
