@@ -31,19 +31,39 @@ puts_are : (e : Election) (start : Ground) (whole first second flow items number
     → first ≡ whole → numbers ≡ replaced_numbers e start first → second ≡ whole → flow ≡ arcs_at start second → items ≡ flow → total ≡ replaced_at start whole
     → ballots ≡ new_ballots start.goal items total → listed ≡ numbers → made ≡ ballots → pairs_of puts ≡ zip listed made → lent ≡ puts
     → pairs_of lent ≡ changes_at e start whole
-puts_are e start whole first second flow items numbers listed ballots made total puts lent one numbers_are two flow_are items_are total_are ballots_are listed_are made_are puts_are lent_are =
-    ap pairs_of lent_are ∙ puts_are
+puts_are e start whole first second flow items numbers listed ballots made total puts lent one numbers_are two flow_are items_are total_are ballots_are listed_are made_are paired lent_are =
+    ap pairs_of lent_are ∙ paired
     ∙ ap (λ ns. zip ns made) (listed_are ∙ numbers_are ∙ ap (replaced_numbers e start) one)
     ∙ ap (zip (replaced_numbers e start whole)) (made_are ∙ ballots_are
     ∙ ap (λ ys. new_ballots start.goal ys total) (items_are ∙ flow_are ∙ ap (arcs_at start) two)
     ∙ ap (new_ballots start.goal (arcs_at start whole)) total_are)
+
+pub overflow_cast-len : goal.overflow_cast-len
+overflow_cast-len c =
+    let e = election_of c.args.race.now in
+    let start = c.args.start.now in
+    let whole = c.args.point.now.whole in
+    let total = total_is e start whole _ _ c.requires.start c.requires.complete c.requires.point c.as_slice.ensures c.in_ok-numbers.ensures in
+    let few = few_replaced e start whole c.requires.start c.requires.point in
+    omega (arith, c.len.ensures, total, few)
+
+pub new_ballots-requires-clause-flow : goal.new_ballots-requires-clause-flow
+new_ballots-requires-clause-flow c =
+    let e = election_of c.args.race.now in
+    let start = c.args.start.now in
+    let whole = c.args.point.now.whole in
+    let total = c.len.ensures ∙ total_is e start whole _ _ c.requires.start c.requires.complete c.requires.point c.as_slice.ensures c.in_ok-numbers.ensures in
+    flow_is start whole _ _ _ _ c.requires.point c.as_slice-2.ensures c.in_ok-flow.ensures c.as_slice-3.ensures.value total
 
 pub from_puts-requires : goal.from_puts-requires
 from_puts-requires c =
     let e = election_of c.args.race.now in
     let start = c.args.start.now in
     let whole = c.args.point.now.whole in
-    ?
+    let total = c.len.ensures ∙ total_is e start whole _ _ c.requires.start c.requires.complete c.requires.point c.as_slice.ensures c.in_ok-numbers.ensures in
+    let puts = puts_are e start whole _ _ _ _ _ _ _ _ _ _ _ c.as_slice.ensures c.in_ok-numbers.ensures c.as_slice-2.ensures c.in_ok-flow.ensures c.as_slice-3.ensures.value total
+    c.in_ok-ballots.ensures c.as_slice-4.ensures c.as_slice-5.ensures c.in_ok-puts.ensures c.as_slice-6.ensures.value in
+    subst (IsAlteration e.poll) (sym puts) (changes_alter e start whole c.requires.start (not_root e start.goal c.requires.complete) c.requires.point)
 
 changes_are : (c : goal.After-drop-numbers-inside-2) → c.in_ok-changes.changes ≡ changes_at (election_of c.args.race.now) c.args.start.now c.args.point.now.whole
 changes_are c =
