@@ -1,6 +1,6 @@
 -- The numbers of the ballots that a point replaces, run by run.
-use Rattle.std.proofs.Common.{ℕ, zero, suc, List, [], ◌∷◌, ◌++◌, ◌≡◌, ◌≢◌, ◌<◌, ◌≤◌, ◌+◌, ◌-◌, ◌∙◌, length, get_or, map, min, replicate, ap, sym, refl, subst, arith, append_assoc, append-nil, All}
-use Rattle.std.specs.Prelude.{Contains, nat_eq}
+use Rattle.std.proofs.Common.{ℕ, zero, suc, List, [], ◌∷◌, ◌++◌, ◌≡◌, ◌≤◌, ◌+◌, ◌-◌, ◌∙◌, length, get_or, map, min, replicate, ap, sym, refl, subst, arith, append_assoc, append-nil, All}
+use Rattle.std.specs.Prelude.{Contains}
 use Rattle.std.specs.List.{range_with_len}
 use Rattle.std.proofs.Math.ListN.{set}
 use Rattle.std.proofs.lemmas.List.{length-set}
@@ -16,7 +16,7 @@ use Rattle.goal_rows.specs.declared.goals.Goal.TheVariants.{Root, Suffix, Pair, 
 use Rattle.goal_rows.specs.declared.parts.Ground.{Ground}
 use Rattle.goal_rows.proofs.SuffixRows.{all_back}
 use Rattle.witness_build.specs.FromPoints.{number_for, replaced_numbers}
-use Rattle.witness_build.proofs.LowNumbers.{IsFirstAt, low_by, low_is, low_run, number_at, taken_at, taken_from}
+use Rattle.witness_build.proofs.LowNumbers.{IsFirstAt, low_by, low_is, low_run, number_at, taken_at}
 
 pub keys_are : (e : Election) (goal : Goal) → (goal ≡ Root → ⊥) → ballot_keys e goal ≡ map (key_of e goal) e.poll.ballots
 keys_are e Root not_root = absurd (not_root refl)

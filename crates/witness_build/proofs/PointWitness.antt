@@ -1,19 +1,18 @@
 -- The replacements that a whole point of a complete goal stands for: as many as it costs, an alteration, and the rows of
 -- the goal hold after it.
-use Rattle.std.proofs.Common.{ℕ, List, ◌≡◌, ◌≤◌, ◌+◌, ◌∙◌, length, map, ap, sym, refl, subst, arith}
-use Rattle.std.specs.Prelude.{nat_eq}
+use Rattle.std.proofs.Common.{ℕ, List, ◌≡◌, ◌∙◌, length, map, ap, sym, subst, arith}
 use Rattle.std.specs.List.{zip}
 use Rattle.std.proofs.lemmas.List.{length-map}
 use Rattle.std.proofs.lemmas.Slice.Zip.{length-zip}
 use Rattle.mov_base.specs.Sums.{add_up}
 use Rattle.ballot_form.specs.Alterations.{IsAlteration, after}
-use Rattle.signature_class.specs.Classes.{AreClasses, classes_of}
+use Rattle.signature_class.specs.Classes.{AreClasses}
 use Rattle.signature_class.proofs.Counts.{keys_are_classes}
 use Rattle.goal_rows.specs.Elections.{Election}
 use Rattle.goal_rows.specs.Goals.{Holds, IsComplete}
 use Rattle.goal_rows.specs.Races.{IsGroundIn, key_of, keys_of}
 use Rattle.goal_rows.specs.declared.goals.Goal.{Goal}
-use Rattle.goal_rows.specs.declared.goals.Goal.TheVariants.{Root, Suffix, Pair, Cover}
+use Rattle.goal_rows.specs.declared.goals.Goal.TheVariants.{Root}
 use Rattle.goal_rows.specs.declared.parts.Ground.{Ground}
 use Rattle.witness_build.specs.FromPoints.{IsPointWithout, arcs_at, changes_at, new_ballots, number_for, replaced_at, replaced_numbers}
 use Rattle.witness_build.specs.Witnesses.{IsMetBy}

@@ -1,6 +1,6 @@
 -- After the replacements that a whole point stands for the rows of its goal hold: what they bring to the rows is what
 -- the classes and arcs count at the point.
-use Rattle.std.proofs.Common.{ℕ, zero, suc, List, [], ◌∷◌, ◌++◌, ◌≡◌, ◌<◌, ◌≤◌, ◌+◌, ◌-◌, ◌*◌, ◌∙◌, length, get_or, map, replicate, take, ap, sym, refl, subst, arith, All}
+use Rattle.std.proofs.Common.{ℕ, zero, suc, List, [], ◌∷◌, ◌++◌, ◌≡◌, ◌<◌, ◌≤◌, ◌+◌, ◌-◌, ◌∙◌, length, get_or, map, replicate, take, ap, sym, refl, arith, All}
 use Rattle.std.specs.Prelude.{ℤ, pos, ◌+ℤ◌, ◌-ℤ◌, ◌*ℤ◌, ◌≤ℤ◌, unsigned_abs}
 use Rattle.std.specs.List.{zip}
 use Rattle.std.proofs.Math.IntN.{negsuc}
@@ -11,17 +11,16 @@ use Rattle.std.proofs.lemmas.List.Elements.{All-cons, All-head, All-map, All-nil
 use Rattle.mov_base.specs.Sums.{add_up, sum_z}
 use Rattle.mov_base.proofs.Signed.{sum_z-add, sum_z-scale, sum_z-zero}
 use Rattle.ballot_form.specs.Alterations.{after_from}
-use Rattle.ballot_form.specs.Ballots.{AreDistinct, IsValidBallot}
-use Rattle.signature_class.specs.Signatures.{cover_key, signature_of, suffix_key}
-use Rattle.signature_class.specs.declared.limits.TheConstants.{MOST_PLACES}
-use Rattle.sig_graph.specs.Flows.{IsFlow, flow_sum}
+use Rattle.ballot_form.specs.Ballots.{IsValidBallot}
+use Rattle.signature_class.specs.Signatures.{cover_key, suffix_key}
+use Rattle.sig_graph.specs.Flows.{IsFlow}
 use Rattle.sig_graph.specs.Paths.{IsPath, arcs_of, ballot_of, path_sum}
 use Rattle.sig_graph.specs.Walks.{split_of}
 use Rattle.sig_graph.proofs.FlowSums.{flow_sum-split}
 use Rattle.sig_graph.proofs.PathBallots.{ballot_is_valid, signature-ballot}
 use Rattle.sig_graph.proofs.Splits.{length-split_of, split_is_paths}
 use Rattle.goal_rows.specs.Elections.{Election}
-use Rattle.goal_rows.specs.Goals.{Holds, IsComplete, gainer_points, loser_points, pair_weight, rows_of}
+use Rattle.goal_rows.specs.Goals.{Holds, gainer_points, loser_points, pair_weight, rows_of}
 use Rattle.goal_rows.specs.Programs.{key_weight, program_rows, weighings_of}
 use Rattle.goal_rows.specs.Races.{IsGroundIn, key_of}
 use Rattle.goal_rows.specs.Suffixes.{cover_rows, others, suffix_rows}
@@ -29,7 +28,7 @@ use Rattle.goal_rows.specs.declared.goals.Goal.{Goal}
 use Rattle.goal_rows.specs.declared.goals.Goal.TheVariants.{Root, Suffix, Pair, Cover}
 use Rattle.goal_rows.specs.declared.parts.Ground.{Ground}
 use Rattle.goal_rows.proofs.GroundSizes.{cover_few, goal_rows_count, suffix_few, weighings_count}
-use Rattle.goal_rows.proofs.PairPoints.{ArePairPoints, pair_points}
+use Rattle.goal_rows.proofs.PairPoints.{pair_points}
 use Rattle.goal_rows.proofs.Ways.{reached_cover, reached_pair, reached_suffix}
 use Rattle.dual_bound.specs.Weighing.{base_by, of_limits, of_rows, over_weight, places_by, row_arcs, rows_bring, times_all}
 use Rattle.dual_bound.proofs.Covers.{cover_reached, cover_worth}

@@ -111,7 +111,12 @@ fn flow_of(alloc: Global, start: &Ground, whole: &[u64]) -> Result<Vec<u32>, Mem
 }
 
 /// So many new ballots of the goal.
-fn new_ballots(alloc: Global, start: &Ground, flow: &[u32], total: u32) -> Result<BallotList, Memory>
+fn new_ballots(
+    alloc: Global,
+    start: &Ground,
+    flow: &[u32],
+    total: u32,
+) -> Result<BallotList, Memory>
     requires start { IsSomeGround start.now }
     requires flow { IsFlowUnder start.now.goal flow.now total }
     ensures { IfOk result (λ ballots. ballots ≡ ballots_by start.now.goal flow.now total) }
@@ -124,7 +129,12 @@ fn new_ballots(alloc: Global, start: &Ground, flow: &[u32], total: u32) -> Resul
 }
 
 /// The ballots of the paths of the flow, in order.
-fn path_ballots(alloc: Global, suffix: &[Cand], flow: &[u32], total: u32) -> Result<BallotList, Memory>
+fn path_ballots(
+    alloc: Global,
+    suffix: &[Cand],
+    flow: &[u32],
+    total: u32,
+) -> Result<BallotList, Memory>
     requires flow { IsFlow (length suffix.now) flow.now total }
     requires distinct { AreDistinct suffix.now }
     requires few { length suffix.now ≤ 255 }

@@ -1,4 +1,4 @@
-use Rattle.std.proofs.Common.{ℕ, List, ◌≡◌, ◌≤◌, ◌∙◌, ap, length, sym, subst, arith}
+use Rattle.std.proofs.Common.{ℕ, List, ◌≡◌, ◌∙◌, ap, length, sym, subst, arith}
 use Rattle.std.specs.List.{zip}
 use Rattle.ballot_form.specs.Alterations.{IsAlteration}
 use Rattle.alteration_model.specs.Faults.{pairs_of}

@@ -1,4 +1,4 @@
-use Rattle.std.proofs.Common.{◌∙◌, ap, length, arith}
+use Rattle.std.proofs.Common.{ap, length, arith}
 use Rattle.goal_rows.proofs.GroundSizes.{suffix_few}
 use Rattle.witness_build.proofs.from_points.new_ballots.Goals as goal
 

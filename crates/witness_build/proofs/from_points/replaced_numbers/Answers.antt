@@ -1,4 +1,4 @@
-use Rattle.std.proofs.Common.{◌≡◌, ◌<◌, ◌∙◌, ap, length, sym, subst, arith}
+use Rattle.std.proofs.Common.{◌<◌, ◌∙◌, ap, length, sym, subst, arith}
 use Rattle.std.specs.Prelude.{Contains}
 use Rattle.std.proofs.lemmas.List.{get_or_read}
 use Rattle.ballot_form.specs.Runs.{Left}
