@@ -13,3 +13,9 @@ pub mod RootPairs
 pub mod StartNumbers
 pub mod TurnedRounds
 pub mod Nearby
+pub mod LowNumbers
+pub mod ReplacedSums
+pub mod PointParts
+pub mod PointsMet
+pub mod LowRuns
+pub mod PointWitness

@@ -1,5 +1,6 @@
 pub mod CellPoints
 pub mod CoverWalks
+pub mod FromPoints
 pub mod Lacking
 pub mod LastRounds
 pub mod Levels

@@ -10,13 +10,17 @@
 //! level, the shortest walk, or the cuts of the last round. No alteration of fewer replacements than those of pairs,
 //! whatever their new ballots, meets a root pair; under instant runoff fewer may do. Gains are counted by classes of
 //! ballots, and the ballots to replace are found in one pass over the runs of equal ballots. `cell_point` gives the one
-//! point of a cell. The crate stands on the goals of `goal_rows`, the cells of `dual_bound`, the pairs of
-//! `condorcet_count`, the orders of `irv_count` and the alterations of `alteration_model`.
+//! point of a cell, and `from_point` the replacements that a whole point of a complete goal stands for, after which the
+//! goal's rows hold. `Found` and `End` say what a search answers, and why it ended. The crate stands on the goals of
+//! `goal_rows`, the cells of `dual_bound`, the values of points of `node_bounds`, the flows of `sig_graph`, the pairs of
+//! `condorcet_count`, the orders of `irv_count`, the trees of `bound_tree` and the alterations of `alteration_model`.
 #![tactic(auto)]
 
 mod cells;
 mod chosen;
 mod covers;
+mod ends;
+mod from_points;
 mod laws;
 mod levels;
 mod pairs;
@@ -26,6 +30,8 @@ mod walks;
 
 pub use cells::cell_point;
 pub use covers::cover_witness;
+pub use ends::{End, Found};
+pub use from_points::from_point;
 pub use laws::{a_start_witness_has_the_start_number, no_shorter_alteration_meets_a_root_pair};
 pub use pairs::{Witness, pair_witness};
 pub use rounds::last_round;
