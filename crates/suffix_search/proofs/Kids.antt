@@ -11,7 +11,8 @@ use Rattle.search_theory.specs.Leaves.{AreMade, IsCutTo, IsMade, Leaf}
 use Rattle.search_leaves.specs.Kept.{IsSeed, IsSeedOf, leaf_of, node_at, node_in}
 use Rattle.search_leaves.specs.declared.leaves.Leaf.{Leaf as KeptLeaf}
 use Rattle.search_leaves.specs.declared.seeds.Seed.{Seed}
-use Rattle.suffix_search.specs.Searches.{AreLeavesOf, IsLeafOf, leaves_of}
+use Rattle.search_leaves.specs.NewLeaves.{IsLeafOf}
+use Rattle.suffix_search.specs.Searches.{AreLeavesOf, leaves_of}
 
 -- ---- one after another
 
@@ -65,15 +66,15 @@ kid_grounds e parent [] (y ∷ kids) all are = absurd are
 kid_grounds e parent (x ∷ seeds) [] all are = absurd are
 kid_grounds e parent (x ∷ seeds) (y ∷ kids) all are =
     let head = All-head (IsSeedOf e parent) x seeds all in
-    All-cons (λ (kid : KeptLeaf). IsGroundIn e kid.start) y kids (grounds_moved y.start x.start e are.0.start head.own.ground)
+    All-cons (λ (kid : KeptLeaf). IsGroundIn e kid.start) y kids (grounds_moved y.start x.start e are.0.ground head.own.ground)
     (kid_grounds e parent seeds kids (All-tail (IsSeedOf e parent) x seeds all) are.1)
 
 node_same : (x : Seed) (y : KeptLeaf) → y.start ≡ x.start → y.limits.items ≡ x.limits.items → node_at y ≡ node_in x
-node_same x y start limits = ap (λ (g : Ground). record { goal = g.goal; limits = y.limits.items }) start ∙ ap (λ (ls : List Limit). record { goal = x.start.goal; limits = ls }) limits
+node_same x y start items = ap (λ (g : Ground). record { goal = g.goal; limits = y.limits.items }) start ∙ ap (λ (ls : List Limit). record { goal = x.start.goal; limits = ls }) items
 
 made_one : (p : Problem) (parent : KeptLeaf) (x : Seed) (y : KeptLeaf) → IsKnown p → IsSeedOf p.election parent x → IsLeafOf p.election x y → IsMade p (leaf_of parent) (node_in x) (leaf_of y)
 made_one p parent x y known seed is = record {
-  is = node_same x y is.start is.limits;
+  is = node_same x y is.ground (cc (is.limits));
   own = is.own p refl known;
   tight = subst (λ b. IsCutTo p.election b (leaf_of y)) seed.bound is.cut;
   depth = is.depth ∙ seed.depth ∙ omega arith;

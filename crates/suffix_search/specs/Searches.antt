@@ -14,11 +14,12 @@ use Rattle.witness_build.specs.Witnesses.{IsMetBy}
 use Rattle.witness_build.specs.declared.pairs.Witness.{Witness}
 use Rattle.search_theory.specs.Branchings.{IsWhole, Values, is_pair}
 use Rattle.search_theory.specs.Ends.{AtPoint, Budget, Depth, EndsAtPoint, GoesOn, IsEnd, IsKnown, Met, Nothing, Problem}
-use Rattle.search_theory.specs.Leaves.{AreMade, ByBranch, ByCover, Growth, IsCutTo, IsFirstLeaf, IsHeld, IsLeaf, IsUnderWay, Leaf, growth_tree, kid_nodes, lowest}
+use Rattle.search_theory.specs.Leaves.{AreMade, ByBranch, ByCover, Growth, IsFirstLeaf, IsHeld, IsUnderWay, Leaf, growth_tree, kid_nodes, lowest}
 use Rattle.search_theory.specs.Spots.{cover_list, has_cover}
 use Rattle.search_theory.specs.Trees.{top_of}
 use Rattle.search_leaves.specs.Branched.{IsBranchedAt, MayBranch}
 use Rattle.search_leaves.specs.Kept.{CanHalve, IsGrowing, leaf_of, node_at, values_of}
+use Rattle.search_leaves.specs.NewLeaves.{IsLeafOf}
 use Rattle.search_leaves.specs.declared.leaves.Leaf.{Leaf as KeptLeaf}
 use Rattle.search_leaves.specs.declared.seeds.Seed.{Seed}
 use Rattle.suffix_search.specs.declared.turns.Stop.{Stop}
@@ -88,14 +89,6 @@ IsTurn p tree kept (turns.Stop low stop) = (low ≡ lowest p.election (leaves_of
 IsTurn p tree kept (turns.Grow place) = Grows p tree kept place
 
 -- ---- growth
-
--- the leaf of a seed
-pub record IsLeafOf (e : Election) (seed : Seed) (leaf : KeptLeaf) : Type 0 where
-  pub start : leaf.start ≡ seed.start
-  pub limits : leaf.limits.items ≡ seed.limits.items
-  pub depth : leaf.depth ≡ seed.depth
-  pub own : (p : Problem) → p.election ≡ e → IsKnown p → IsLeaf p (leaf_of leaf)
-  pub cut : IsCutTo e seed.bound (leaf_of leaf)
 
 -- the leaves of the seeds, one each
 abbrev pub AreLeavesOf : Election → List Seed → List KeptLeaf → Type 0

@@ -1,5 +1,5 @@
 // The node of a cut.
-ghost use Rattle.std.specs.Prelude.{◌≡◌, ◌<◌, ◌≤◌, ◌+◌, ◌↔◌, IfErr, IfOk, IsOk, map};
+ghost use Rattle.std.specs.Prelude.{◌≡◌, ◌<◌, ◌≤◌, ◌+◌, ◌-◌, ◌↔◌, IfErr, IfOk, IsOk, map};
 ghost use Rattle.bound_tree.specs.Nodes.{cut_count, cut_count_all, size, size_all};
 ghost use Rattle.bound_tree.specs.Plain.{kids_of, plain_of};
 ghost use Rattle.bound_tree.specs.declared.bound.TheConstants.{MOST_NODES};

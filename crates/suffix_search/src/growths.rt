@@ -1,17 +1,13 @@
 // How a leaf grows.
-ghost use Rattle.std.specs.Prelude.{◌≡◌, ◌<◌, ◌≤◌, ◌+◌, ◌*◌, ◌-◌, ◌↔◌, ℕ, All, IfOk, OnOk, IfErr, length, map, true, false};
-ghost use Rattle.bound_tree.specs.Nodes.{size};
-ghost use Rattle.bound_tree.specs.Places.{IsAtDepth, IsCut};
-ghost use Rattle.bound_tree.specs.declared.bound.TheConstants.{MOST_DEPTH, MOST_NODES};
+ghost use Rattle.std.specs.Prelude.{◌≡◌, ◌≢◌, ◌<◌, ◌≤◌, All, IfOk, IsErrOf, IsOk, OnOk, length, map, true, false};
+ghost use Rattle.bound_tree.specs.declared.bound.TheConstants.{MOST_NODES};
 ghost use Rattle.bound_tree.specs.declared.fault.GrowFault.TheVariants as faults;
 ghost use Rattle.goal_rows.specs.Races.{IsRace, election_of};
 ghost use Rattle.goal_rows.specs.declared.goals.Goal.TheVariants.{Root as TheRoot};
 ghost use Rattle.search_theory.specs.Ends.{IsKnown, Problem as AProblem};
 ghost use Rattle.search_theory.specs.Spots.{has_cover, put_at};
-ghost use Rattle.search_leaves.specs.Branched.{MayBranch};
-ghost use Rattle.search_leaves.specs.Kept.{IsGrowing, IsSeed, node_at};
-ghost use Rattle.search_leaves.specs.Rooms.{HasRoom};
-ghost use Rattle.suffix_search.specs.Searches.{AreKids, AreLeavesOf, Grows, IsRunning, growth_at};
+ghost use Rattle.search_leaves.specs.Kept.{IsSeed};
+ghost use Rattle.suffix_search.specs.Searches.{AreKids, AreLeavesOf, Grows, IsRunning, MayGrowAt, distance};
 
 use crate::cut_numbers::cut_number;
 use bound_tree::{BoundTree, GrowFault, MultiplierLists};

@@ -1,5 +1,5 @@
 // What a turn of a search does.
-ghost use Rattle.std.specs.Prelude.{◌≡◌, ◌↔◌, ◌<◌, ◌≤◌, IsTrue, Some, length, option_map};
+ghost use Rattle.std.specs.Prelude.{◌≡◌, ◌↔◌, ◌<◌, ◌≤◌, ◌+◌, ℕ, IsTrue, Some, length};
 ghost use Rattle.bound_tree.specs.declared.bound.TheConstants.{MOST_NODES};
 ghost use Rattle.goal_rows.specs.Races.{IsRace, election_of};
 ghost use Rattle.search_theory.specs.Branchings.{IsWhole, Values as AValues};
