@@ -11,7 +11,8 @@
 mod laws;
 
 pub use laws::{
-    a_ceiling_is_one_number, a_cut_at_the_ceiling_is_the_bound, a_cut_is_at_most_the_ceiling,
-    a_pairs_bound_is_its_ceiling, no_ceiling_is_below_a_cut_above_it,
-    solved_multipliers_cut_up_to_the_ceiling, zeros_change_no_cut,
+    a_ceiling_is_one_number, a_cell_has_one_point, a_cells_ceiling,
+    a_cut_at_the_ceiling_is_the_bound, a_cut_is_at_most_the_ceiling, a_pairs_bound_is_its_ceiling,
+    no_ceiling_is_below_a_cut_above_it, solved_multipliers_cut_up_to_the_ceiling,
+    zeros_change_no_cut,
 };
