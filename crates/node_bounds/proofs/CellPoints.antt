@@ -1,12 +1,12 @@
 -- The points of a node lie in the ranges that its limits leave the variables; so a cell has one point at most, and its
 -- ceiling is what that costs.
-use Rattle.std.proofs.Common.{◌≡◌, ◌⊎◌, ℕ, zero, suc, ◌+◌, ◌-◌, ◌*◌, ◌<◌, ◌≤◌, List, [], ◌∷◌, ◌++◌, true, false, cond, length, get_or, map, refl, sym, ap, subst, ◌∙◌, inl, inr, arith, All}
+use Rattle.std.proofs.Common.{◌≡◌, ℕ, zero, suc, ◌+◌, ◌-◌, ◌*◌, ◌<◌, ◌≤◌, List, [], ◌∷◌, ◌++◌, true, false, cond, length, get_or, map, refl, sym, ap, subst, ◌∙◌, inl, inr, arith, All}
 use Rattle.std.specs.Prelude.{Contains, ℤ, pos, ◌+ℤ◌, ◌-ℤ◌, ◌*ℤ◌, ◌≤ℤ◌}
 use Rattle.std.specs.List.{list_any}
 use Rattle.std.proofs.Math.IntN.{negsuc}
 use Rattle.std.proofs.lemmas.Bool.{cases_Bool, cases_lt}
 use Rattle.std.proofs.lemmas.Int.{ints}
-use Rattle.std.proofs.lemmas.List.{ext_get_or, get_or-append_right, get_or_append_left, get_or_default, length-append, length-map}
+use Rattle.std.proofs.lemmas.List.{ext_get_or, get_or-append_right, get_or_append_left, length-append, length-map}
 use Rattle.mov_base.specs.Sums.{add_up, sum_z}
 use Rattle.mov_base.proofs.Signed.{distrib, sum_z-scale}
 use Rattle.row_program.specs.Forms.{empty_row}
@@ -17,8 +17,8 @@ use Rattle.row_program.specs.declared.Limit.{Limit}
 use Rattle.row_program.specs.declared.program.Row.{Row}
 use Rattle.row_program.specs.declared.program.Term.{Term}
 use Rattle.sig_graph.specs.Flows.{flow_at}
-use Rattle.sig_graph.specs.Paths.{arc_total, arcs_of}
-use Rattle.sig_graph.proofs.ArcNumbers.{arc_of, length-arcs_of}
+use Rattle.sig_graph.specs.Paths.{arcs_of}
+use Rattle.sig_graph.proofs.ArcNumbers.{IsArc, arc_of, length-arcs_of}
 use Rattle.sig_graph.proofs.Splits.{flow_at-le}
 use Rattle.goal_rows.specs.Cells.{IsCell, Variable, cell_values, high_end, low_end, same_feature, variables_of}
 use Rattle.goal_rows.specs.Elections.{Election}
@@ -29,7 +29,7 @@ use Rattle.goal_rows.specs.declared.goals.Goal.{Goal}
 use Rattle.goal_rows.specs.declared.goals.Goal.TheVariants.{Root, Suffix, Pair, Cover}
 use Rattle.goal_rows.specs.declared.parts.Ground.{Ground}
 use Rattle.goal_rows.proofs.SuffixRows.{all_back}
-use Rattle.dual_bound.specs.CellCuts.{features_of, same_limit}
+use Rattle.dual_bound.specs.CellCuts.{above_none, features_of, same_limit}
 use Rattle.dual_bound.specs.CellParts.{variable}
 use Rattle.dual_bound.specs.Sizes.{places_of}
 use Rattle.dual_bound.specs.Weighing.{times_all}
@@ -42,12 +42,12 @@ use Rattle.dual_bound.proofs.CellRowValues.{weight_on, weights_are, weights_over
 use Rattle.dual_bound.proofs.CellVariables.{values_count, variables_are, variables_count}
 use Rattle.dual_bound.proofs.GivenLimits.{high_or_limit, low_or_limit, same_feature_on, same_limit_is}
 use Rattle.dual_bound.proofs.Pairwise.{zip_none}
-use Rattle.dual_bound.proofs.SideBySide.{minus_inside, times_same, turned}
-use Rattle.node_bounds.specs.Ceilings.{HasNoNodePoint, IsCeiling, ground_at}
+use Rattle.dual_bound.proofs.SideBySide.{minus_inside, times_same}
+use Rattle.node_bounds.specs.Ceilings.{HasNoNodePoint, IsCeiling}
 use Rattle.node_bounds.proofs.CeilingCuts.{ground_is}
 use Rattle.node_bounds.proofs.CeilingSizes.{all_ballots}
 use Rattle.node_bounds.proofs.PointValues.{all_front, apart, cost_is, rest_met}
-use Rattle.node_bounds.proofs.RestRows.{AreWithin, IsMetAt, classes_within, rows_make_flow, within_at}
+use Rattle.node_bounds.proofs.RestRows.{IsMetAt, classes_within, rows_make_flow, within_at}
 use Rattle.node_bounds.proofs.RowValues.{AreNumbersOf, row_by_value, rows_kept}
 
 -- ---- a row that counts one variable
@@ -60,9 +60,9 @@ none_of : (features : List Feature) (whole : List ℕ) (g : Feature) (c : ℤ) �
 none_of [] whole g c none = zip_none (λ v. pos v.0 *ℤ v.1) whole
 none_of (f ∷ features) [] g c none = refl
 none_of (f ∷ features) (x ∷ whole) g c none = elim (cases_Bool (same_feature f g)) [
-  | inl on ↦ absurd (let one = ap (λ b. cond b 1 0) on in omega (arith, one, none))
+  | inl on ↦ absurd (let one = ap {B = ℕ} (λ b. cond b 1 0) on in omega (arith, one, none))
   | inr off ↦
-      let no = ap (λ b. cond b 1 0) off in
+      let no = ap {B = ℕ} (λ b. cond b 1 0) off in
       let rest = none_of features whole g c (omega (arith, no, none)) in
       let here = ap (λ b. pos x *ℤ cond b c (pos 0)) off in
       omega (arith, ints, here, rest)
@@ -72,7 +72,7 @@ none_of (f ∷ features) (x ∷ whole) g c none = elim (cases_Bool (same_feature
 some_there : (features : List Feature) (g : Feature) (k : ℕ) → k < length features → get_or features k g ≡ g → 1 ≤ count features g
 some_there [] g k lt at = absurd (omega (arith, lt))
 some_there (f ∷ features) g zero lt at =
-    let on = ap (λ b. cond b 1 0) (subst (λ h. same_feature h g ≡ true) (sym at) (same_feature_on g)) in
+    let on = ap {B = ℕ} (λ b. cond b 1 0) (subst (λ h. same_feature h g ≡ true) (sym at) (same_feature_on g)) in
     omega (arith, on)
 some_there (f ∷ features) g (suc k) lt at = let rest = some_there features g k (omega (arith, lt)) at in omega (arith, rest)
 
@@ -82,14 +82,14 @@ alone [] whole g c k once lt at long = absurd (omega (arith, lt))
 alone (f ∷ features) [] g c k once lt at long = absurd (omega (arith, long))
 alone (f ∷ features) (x ∷ whole) g c zero once lt at long =
     let on = subst (λ h. same_feature h g ≡ true) (sym at) (same_feature_on g) in
-    let one = ap (λ b. cond b 1 0) on in
+    let one = ap {B = ℕ} (λ b. cond b 1 0) on in
     let rest = none_of features whole g c (omega (arith, one, once)) in
     let here = ap (λ b. pos x *ℤ cond b c (pos 0)) on in
     omega (arith, ints, here, rest)
 alone (f ∷ features) (x ∷ whole) g c (suc k) once lt at long = elim (cases_Bool (same_feature f g)) [
-  | inl on ↦ absurd (let one = ap (λ b. cond b 1 0) on in let some = some_there features g k (omega (arith, lt)) at in omega (arith, one, some, once))
+  | inl on ↦ absurd (let one = ap {B = ℕ} (λ b. cond b 1 0) on in let some = some_there features g k (omega (arith, lt)) at in omega (arith, one, some, once))
   | inr off ↦
-      let no = ap (λ b. cond b 1 0) off in
+      let no = ap {B = ℕ} (λ b. cond b 1 0) off in
       let rest = alone features whole g c k (omega (arith, no, once)) (omega (arith, lt)) at (omega (arith, long)) in
       let here = ap (λ b. pos x *ℤ cond b c (pos 0)) off in
       omega (arith, ints, here, rest)
@@ -119,6 +119,10 @@ flow_within start (Suffix suffix) xs ys den u x are met begins ends =
     flow_at-le (length suffix) ys (add_up (λ y. y) xs) (rows_make_flow suffix start.classes xs ys den are met) u x begins ends
 flow_within start (Pair g l) xs ys den u x are met begins ends = absurd (omega (arith, begins, ends))
 flow_within start (Cover c) xs ys den u x are met begins ends = absurd (omega (arith, begins, ends))
+
+-- the number of an arc, by its place
+arc_number : (m : ℕ) (ys : List ℕ) (j n : ℕ) (arc : IsArc m j) → flow_at m ys arc.from arc.to ≤ n → get_or ys j 0 ≤ n
+arc_number m ys j n arc le = subst (λ i. get_or ys i 0 ≤ n) arc.is le
 
 module _ (e : Election) (start : Ground) (limits : List Limit) (whole : List ℕ) (den : ℕ) (is : IsGroundIn e start) (point : IsPointOf start limits whole den) where
   ends_met : (k : ℕ) (d : Variable) → k < length (variables_of start) → get_or whole k 0 ≤ (get_or (variables_of start) k d).end * den
@@ -152,14 +156,14 @@ module _ (e : Election) (start : Ground) (limits : List Limit) (whole : List ℕ
             let all = length-arcs_of m in
             let arc = arc_of m j (omega (arith, inside, all)) in
             let flow = flow_within start start.goal xs ys den arc.from arc.to parts.numbers met.1 arc.begins arc.ends in
-            let number = ap (λ i. get_or ys i 0) arc.is in
+            let number = arc_number m ys j (add_up (λ y. y) xs) arc flow in
             let few = all_ballots e start limits whole den is point in
             let cost = ap (point_cost_of start) parts.is ∙ cost_is start xs ys parts.numbers in
             let here = get_or-append_right xs ys (length start.classes) k 0 parts.numbers.of_classes past in
             let is_arc = at ∙ get_or-append_right front back (length start.classes) k d long past ∙ at_of arc_at (arcs_of m) j d (0, 0) inside in
             let end = ap (λ (v : Variable). v.end) is_arc in
             let product = ap (λ n. n * den) (end ∙ is.values.ballots) in
-            omega (arith, flow, number, few, cost, here, value, product)
+            omega (arith, number, few, cost, here, value, product)
       ]
 
   -- ---- limits
@@ -261,10 +265,10 @@ scaled_at den (x ∷ values) zero = refl
 scaled_at den (x ∷ values) (suc k) = scaled_at den values k
 
 scaled_times : (z : ℤ) (p den : ℕ) → z *ℤ pos (p * den) ≡ pos den *ℤ (z *ℤ pos p)
-scaled_times z p den = by z (two_parts z)
+scaled_times z p den = by (above_none z) (above_none (pos 0 -ℤ z)) (two_parts z)
   where
-    by : (z : ℤ) {r f : ℕ} → z ≡ pos r -ℤ pos f → z *ℤ pos (p * den) ≡ pos den *ℤ (z *ℤ pos p)
-    by z {r} {f} is =
+    by : (r f : ℕ) → z ≡ pos r -ℤ pos f → z *ℤ pos (p * den) ≡ pos den *ℤ (z *ℤ pos p)
+    by r f is =
         let one = times_parts z r f (p * den) is in
         let two = ap (λ y. pos den *ℤ y) (times_parts z r f p is) in
         let apart = minus_inside den (pos (r * p)) (pos (f * p)) in
