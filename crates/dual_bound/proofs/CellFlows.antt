@@ -166,7 +166,7 @@ module _ (limits : List Limit) (features : List Feature) (terms : List Term) whe
 
 -- ---- terms
 
-any_passes : {A : Type 0} (test : A → Bool) (xs : List A) → list_any test xs ≡ true → (x : A) × Contains xs x × (test x ≡ true)
+pub any_passes : {A : Type 0} (test : A → Bool) (xs : List A) → list_any test xs ≡ true → (x : A) × Contains xs x × (test x ≡ true)
 any_passes test [] on = absurd (let clash : false ≡ true = on in cc)
 any_passes test (x ∷ xs) on = elim (cases_Bool (test x)) [
   | inl here ↦ (x, (0, omega arith, refl), here)

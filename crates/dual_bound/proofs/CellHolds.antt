@@ -77,13 +77,13 @@ sums_same f g [] same = refl
 sums_same f g (x ∷ xs) same = let h = same x in let r = sums_same f g xs same in omega (arith, ints, h, r)
 
 -- what a limit's row counts for keys and arcs
-abbrev key_part : Limit → ℕ → ℤ
+abbrev pub key_part : Limit → ℕ → ℤ
 key_part l k = cond (has_key k l.feature) (one_more_in l) (pos 0)
 
-abbrev arc_part : Limit → ℕ × ℕ → ℤ
+abbrev pub arc_part : Limit → ℕ × ℕ → ℤ
 arc_part l a = cond (has_ends a l.feature) (one_more_in l) (pos 0)
 
-part_is : (l : Limit) (f : Feature) → weight_on (key_part l) (arc_part l) f ≡ cond (same_feature f l.feature) (one_more_in l) (pos 0)
+pub part_is : (l : Limit) (f : Feature) → weight_on (key_part l) (arc_part l) f ≡ cond (same_feature f l.feature) (one_more_in l) (pos 0)
 part_is l (From k) = refl
 part_is l (Arc u p) = refl
 

@@ -1,13 +1,11 @@
 -- Sums over the arcs of a suffix, and the rows of a flow.
 use Rattle.std.proofs.Common.{◌≡◌, ◌≢◌, ℕ, zero, suc, ◌+◌, ◌-◌, ◌*◌, ◌<◌, ◌≤◌, List, [], ◌∷◌, length, get_or, map, refl, sym, ap, ◌∙◌, inl, inr, arith}
 use Rattle.std.specs.Prelude.{pos, ◌-ℤ◌, ◌==◌}
-use Rattle.std.specs.List.{flat_map, range_with_len}
+use Rattle.std.specs.List.{range_with_len}
 use Rattle.std.proofs.lemmas.Bool.{cases_eq, cases_lt}
 use Rattle.std.proofs.lemmas.Int.{ints}
 use Rattle.std.proofs.lemmas.List.{ext_get_or, length-map}
-use Rattle.std.proofs.lemmas.List.Concat.{flat_map-cons}
 use Rattle.mov_base.specs.Sums.{add_up}
-use Rattle.mov_base.proofs.Sums.{add_up-append, add_up-map}
 use Rattle.irv_count.proofs.Members.{differ_test, same_test}
 use Rattle.sig_graph.specs.Flows.{flow_at, flow_in, flow_out}
 use Rattle.sig_graph.specs.Paths.{arc_total, arcs_of}

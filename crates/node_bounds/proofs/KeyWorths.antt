@@ -2,7 +2,6 @@
 use Rattle.std.proofs.Common.{◌≡◌, ℕ, ◌+◌, ◌-◌, ◌*◌, ◌≤◌, List, [], ◌∷◌, Bool, true, false, cond, length, map, refl, ap, ◌∙◌, inl, inr, arith}
 use Rattle.std.specs.Prelude.{ℤ, pos, ◌+ℤ◌, ◌-ℤ◌, ◌*ℤ◌, ◌≤ℤ◌, unsigned_abs}
 use Rattle.std.specs.Int.{int_max}
-use Rattle.std.specs.List.{flat_map, range_with_len}
 use Rattle.std.proofs.Math.IntN.{negsuc}
 use Rattle.std.proofs.Math.Nat.{mul-le-mul_left}
 use Rattle.std.proofs.lemmas.Bool.{cases_lt}
@@ -11,17 +10,10 @@ use Rattle.mov_base.specs.Sums.{add_up}
 use Rattle.row_program.specs.declared.Feature.{Feature}
 use Rattle.row_program.specs.declared.Feature.TheVariants.{From, Arc}
 use Rattle.row_program.specs.declared.Limit.{Limit}
-use Rattle.signature_class.specs.declared.limits.TheConstants.{MOST_PLACES}
-use Rattle.sig_graph.specs.Paths.{path_sum}
-use Rattle.sig_graph.specs.Rows.{is_first_from, one_where, row_weight_of}
-use Rattle.goal_rows.specs.KeyCounts.{is_held}
-use Rattle.goal_rows.specs.Programs.{arc_weight, has_ends, has_key, held_rows, key_weight}
-use Rattle.dual_bound.specs.Weighing.{gain_over, is_arc, is_from, limits_bring, over_weight, places_by, row_arcs, row_places, rows_bring, signed, times_all}
-use Rattle.dual_bound.proofs.Keyed.{sum_z-made}
-use Rattle.dual_bound.proofs.PathArcs.{row_sum, rows_on_path}
-use Rattle.dual_bound.proofs.HeldPlaces.{alike_on_places, from_places, held_by_place, places_are_path, row_places_compared, rows_by_places}
+use Rattle.goal_rows.specs.Programs.{has_ends, has_key}
+use Rattle.dual_bound.specs.Weighing.{gain_over, is_arc, is_from, limits_bring, over_weight, signed, times_all}
 use Rattle.node_bounds.proofs.RowValues.{limit_arc, limit_key}
-use Rattle.dual_bound.proofs.SideBySide.{minus_inside, mixed, mixed_alike, mixed_minus}
+use Rattle.dual_bound.proofs.SideBySide.{minus_inside, mixed}
 
 -- ---- limits
 

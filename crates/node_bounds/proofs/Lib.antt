@@ -10,3 +10,4 @@ pub mod CeilingSizes
 pub mod Inheritance
 pub mod PairBounds
 pub mod OneCeiling
+pub mod CellPoints

@@ -1,5 +1,5 @@
 -- What replaced ballots and the arcs of new ones are worth, goal by goal: together they bring the gains by keys.
-use Rattle.std.proofs.Common.{◌≡◌, ◌⊎◌, ℕ, zero, suc, ◌+◌, ◌-◌, ◌*◌, ◌<◌, ◌≤◌, List, [], ◌∷◌, ◌++◌, length, map, replicate, refl, sym, ap, subst, ◌∙◌, inl, inr, arith, All}
+use Rattle.std.proofs.Common.{◌≡◌, ◌⊎◌, ℕ, zero, suc, ◌+◌, ◌-◌, ◌*◌, ◌≤◌, List, [], ◌∷◌, ◌++◌, length, map, replicate, refl, sym, ap, subst, ◌∙◌, inl, inr, arith, All}
 use Rattle.std.specs.Prelude.{ℤ, pos, ◌+ℤ◌, ◌-ℤ◌, ◌*ℤ◌, ◌≤ℤ◌, unsigned_abs, slice_index}
 use Rattle.std.specs.Int.{int_max}
 use Rattle.std.proofs.Math.IntN.{negsuc}
@@ -12,7 +12,7 @@ use Rattle.row_program.specs.declared.Limit.{Limit}
 use Rattle.row_program.specs.declared.program.Row.{Row}
 use Rattle.signature_class.specs.declared.limits.TheConstants.{MOST_PLACES}
 use Rattle.sig_graph.specs.Flows.{IsFlow}
-use Rattle.sig_graph.specs.Paths.{IsBest, IsPath, arcs_of, path_sum, weight_at}
+use Rattle.sig_graph.specs.Paths.{IsBest, IsPath, arcs_of, path_sum}
 use Rattle.sig_graph.specs.Walks.{flow_of, uses_of}
 use Rattle.sig_graph.proofs.FlowSums.{flow_sum-le}
 use Rattle.sig_graph.proofs.PathFlows.{flow_sum-of, paths_are_flow}
