@@ -5,7 +5,7 @@ use Rattle.std.proofs.lemmas.Bool.{cases_lt}
 use Rattle.std.proofs.lemmas.List.{get_or_default, length-map}
 use Rattle.std.proofs.Math.Nat.{mul-le-mul_right}
 use Rattle.std.proofs.lemmas.Nat.{div-add-mod', mod_below}
-use Rattle.std.proofs.lemmas.Option.{get_or_from_slice_get, slice_get_within}
+use Rattle.std.proofs.lemmas.Option.{get_or_from_slice_get, slice_get-get_or, slice_get_within}
 use Rattle.ballot_form.specs.declared.limits.TheConstants.{MOST_BALLOTS}
 use Rattle.row_program.specs.declared.Feature.{Feature}
 use Rattle.row_program.specs.declared.Feature.TheVariants.{From}
@@ -43,11 +43,6 @@ variable_of (w ∷ vs) (suc k) f is = variable_of vs k f is
 
 there_at : {A : Type 0} (xs : List A) (k : ℕ) (x : A) → slice_get xs k ≡ Some x → Contains xs x
 there_at xs k x is = (k, slice_get_within xs k x is, get_or_from_slice_get xs k x x is)
-
-slice_get_is : {A : Type 0} (xs : List A) (k : ℕ) (d : A) → k < length xs → slice_get xs k ≡ Some (get_or xs k d)
-slice_get_is [] k d lt = absurd (omega (arith, lt))
-slice_get_is (x ∷ xs) zero d lt = refl
-slice_get_is (x ∷ xs) (suc k) d lt = slice_get_is xs k d (omega (arith, lt))
 
 -- ---- halves
 
@@ -111,9 +106,8 @@ module _ (e : Election) (leaf : KeptLeaf) (b : Branching) (may : MayBranch e lea
   module _ (q : Values) (least : IsLeastOf e (node_at leaf) q) where
     ranges : (k : ℕ) (v : Variable) → slice_get (variables_of leaf.start) k ≡ Some v → IsBetween leaf.limits.items v (slice_index q.whole k) q.den
     ranges =
-        let on = subst (λ (g : Ground). All (λ (l : Limit). Contains (features_of g) l.feature) leaf.limits.items) (sym same) may.ranges.on_variables in
         let point = subst (λ (g : Ground). IsPointOf g leaf.limits.items q.whole q.den) (sym same) least.point in
-        point_between e leaf.start leaf.limits.items q.whole q.den may.ground may.featured on point
+        point_between e leaf.start leaf.limits.items q.whole q.den may.ground point
 
     numbers_long : length q.whole ≡ length (variables_of leaf.start)
     numbers_long = least.point.all_variables ∙ ap (λ (g : Ground). length (costs_of g.classes (arcs_under g.goal))) (sym same) ∙ sym (variables_count leaf.start)
@@ -124,7 +118,7 @@ module _ (e : Election) (leaf : KeptLeaf) (b : Branching) (may : MayBranch e lea
         let vs = variables_of leaf.start in
         let within : k < length vs = omega (arith, lt, numbers_long) in
         let v = get_or vs k (record { feature = From 0; end = 0 }) in
-        let stands : slice_get vs k ≡ Some v = slice_get_is vs k _ within in
+        let stands : slice_get vs k ≡ Some v = slice_get-get_or vs k _ within in
         let between = ranges k v stands in
         let end = one_end e leaf.start k v may.ground stands in
         let high = high_below leaf.limits.items v in

@@ -9,7 +9,7 @@ use Rattle.ballot_form.specs.declared.limits.TheConstants.{MOST_BALLOTS}
 use Rattle.row_program.specs.declared.Feature.{Feature}
 use Rattle.row_program.specs.declared.Feature.TheVariants.{From, Arc}
 use Rattle.row_program.specs.declared.Limit.{Limit}
-use Rattle.goal_rows.specs.Cells.{HasFeatures, Variable, high_end, low_end, same_feature, variables_of}
+use Rattle.goal_rows.specs.Cells.{Variable, high_end, low_end, same_feature, variables_of}
 use Rattle.goal_rows.specs.Elections.{Election}
 use Rattle.goal_rows.specs.Programs.{IsPointOf, arcs_under}
 use Rattle.goal_rows.specs.Races.{IsGroundIn}
@@ -17,6 +17,7 @@ use Rattle.goal_rows.specs.declared.parts.Ground.{Ground}
 use Rattle.dual_bound.specs.CellCuts.{features_of}
 use Rattle.dual_bound.proofs.CellFeatures.{count, counted_once}
 use Rattle.dual_bound.proofs.GivenLimits.{same_feature_on}
+use Rattle.node_bounds.proofs.CellPoints.{ranges_at}
 use Rattle.search_leaves.proofs.ClassCopies.{counts_small}
 
 -- ---- features
@@ -91,6 +92,13 @@ pub record IsBetween (limits : List Limit) (v : Variable) (x den : ℕ) : Type 0
   pub low : low_end limits v.feature * den ≤ x
   pub high : x ≤ high_end limits v * den
 
-pub point_between : (e : Election) (start : Ground) (limits : List Limit) (whole : List ℕ) (den : ℕ) → IsGroundIn e start → HasFeatures start.goal → All (λ (l : Limit). Contains (features_of start) l.feature) limits
-    → IsPointOf start limits whole den → (k : ℕ) (v : Variable) → slice_get (variables_of start) k ≡ Some v → IsBetween limits v (slice_index whole k) den
-point_between e start limits whole den is has on point k v stands = ?
+pub point_between : (e : Election) (start : Ground) (limits : List Limit) (whole : List ℕ) (den : ℕ) → IsGroundIn e start → IsPointOf start limits whole den
+    → (k : ℕ) (v : Variable) → slice_get (variables_of start) k ≡ Some v → IsBetween limits v (slice_index whole k) den
+point_between e start limits whole den is point k v stands =
+    let vs = variables_of start in
+    let range = ranges_at e start limits whole den is point k v (slice_get_within vs k v stands) in
+    let there = get_or_from_slice_get vs k v v stands in
+    record {
+      low = subst (λ (w : Variable). low_end limits w.feature * den ≤ slice_index whole k) there range.0;
+      high = subst (λ (w : Variable). slice_index whole k ≤ high_end limits w * den) there range.1;
+    }

@@ -1,57 +1,16 @@
 -- The least point of a node, in its least denominator: where each of its values is whole, that is 1.
 use Rattle.std.proofs.Common.{◌≡◌, ℕ, zero, suc, ◌+◌, ◌*◌, ◌<◌, ◌≤◌, ◌∙◌, List, [], ◌∷◌, All, get_or, length, map, refl, sym, ap, subst, arith, inl, inr}
-use Rattle.std.specs.Prelude.{ℤ, pos, ◌+ℤ◌, ◌-ℤ◌, ◌*ℤ◌, ◌≤ℤ◌, ◌%◌, ◌/◌, slice_index}
-use Rattle.std.proofs.Math.IntN.{negsuc}
+use Rattle.std.specs.Prelude.{pos, ◌≤ℤ◌, ◌%◌, ◌/◌, slice_index}
 use Rattle.std.proofs.lemmas.Bool.{cases_lt}
-use Rattle.std.proofs.lemmas.Int.{ints}
 use Rattle.std.proofs.lemmas.List.{length-map}
 use Rattle.std.proofs.lemmas.Nat.{div-add-mod', mod_below, mod-mul-add}
-use Rattle.mov_base.specs.Sums.{sum_z}
-use Rattle.exact_num.proofs.Ring.{leaf, mul_add, same, times}
-use Rattle.row_program.specs.Points.{SameValues, row_value, term_value}
-use Rattle.row_program.specs.declared.program.Row.{Row}
-use Rattle.row_program.specs.declared.program.Term.{Term}
+use Rattle.row_program.specs.Points.{SameValues, row_value}
 use Rattle.goal_rows.specs.Elections.{Election, Node}
 use Rattle.goal_rows.specs.Programs.{IsPointOf, program_rows}
 use Rattle.node_bounds.specs.Ceilings.{IsNodePoint, ground_at}
+use Rattle.node_bounds.proofs.CellPoints.{not_below, scaled, scaled_at, scaled_row}
 use Rattle.search_theory.specs.Branchings.{IsLeastOf, IsWhole, IsWholeAt, Values}
 use Rattle.search_leaves.specs.Branched.{HasPart, IsPart}
-
--- ---- numbers over another denominator
-
-abbrev scaled : ℕ → List ℕ → List ℕ
-scaled den xs = map (λ n. n * den) xs
-
-scaled_at : (den : ℕ) (xs : List ℕ) (k : ℕ) → slice_index (scaled den xs) k ≡ slice_index xs k * den
-scaled_at den [] k = omega arith
-scaled_at den (x ∷ xs) zero = refl
-scaled_at den (x ∷ xs) (suc k) = scaled_at den xs k
-
-both : (n den : ℕ) → pos (n * den) ≡ pos n *ℤ pos den
-both n den = omega (arith, ints)
-
-turned : (t : ℤ) (n den : ℕ) → t *ℤ pos (n * den) ≡ pos den *ℤ (t *ℤ pos n)
-turned t n den = ap (λ z. t *ℤ z) (both n den) ∙ same (times (leaf t) (times (leaf (pos n)) (leaf (pos den)))) (times (leaf (pos den)) (times (leaf t) (leaf (pos n)))) (omega arith)
-
-scaled_sum : (den : ℕ) (xs : List ℕ) (terms : List Term) → sum_z (term_value (scaled den xs)) terms ≡ pos den *ℤ sum_z (term_value xs) terms
-scaled_sum den xs [] = omega (arith, ints)
-scaled_sum den xs (t ∷ terms) =
-    let here = ap (λ n. t.times *ℤ pos n) (scaled_at den xs t.variable) ∙ turned t.times (slice_index xs t.variable) den in
-    let rest = scaled_sum den xs terms in
-    let split = mul_add (pos den) (term_value xs t) (sum_z (term_value xs) terms) in
-    omega (arith, ints, here, rest, split)
-
-scaled_row : (den : ℕ) (xs : List ℕ) (row : Row) → row_value row (scaled den xs) den ≡ pos den *ℤ row_value row xs 1
-scaled_row den xs row =
-    let sum = scaled_sum den xs row.terms in
-    let first : row.constant *ℤ pos den ≡ pos den *ℤ (row.constant *ℤ pos 1) =
-    same (times (leaf row.constant) (leaf (pos den))) (times (leaf (pos den)) (times (leaf row.constant) (leaf (pos 1)))) (omega arith) in
-    let split = mul_add (pos den) (row.constant *ℤ pos 1) (sum_z (term_value xs) row.terms) in
-    omega (arith, ints, sum, first, split)
-
-not_below : (den : ℕ) (z : ℤ) → 1 ≤ den → pos 0 ≤ℤ (pos den *ℤ z) → pos 0 ≤ℤ z
-not_below den (pos n) some le = omega (arith, ints)
-not_below den (negsuc n) some le = let is : pos den *ℤ negsuc n ≡ pos 0 -ℤ pos (den * suc n) = omega (arith, ints) in absurd (omega (arith, ints, is, le, some))
 
 -- ---- whole values
 
