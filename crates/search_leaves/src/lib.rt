@@ -8,6 +8,8 @@
 
 mod leaves;
 mod seeds;
+mod tools;
 
-pub use leaves::Leaf;
+pub use leaves::{Leaf, first_leaf, new_leaf};
 pub use seeds::{Branching, Seed, seeds_by_cover};
+pub use tools::Tools;
