@@ -4,3 +4,6 @@ pub mod SeedLimits
 pub mod MadeLeaves
 pub mod PairMeets
 pub mod PairLeaves
+pub mod CellNodes
+pub mod RootLeaf
+pub mod SolvedNodes
