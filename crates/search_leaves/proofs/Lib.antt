@@ -7,3 +7,4 @@ pub mod PairLeaves
 pub mod CellNodes
 pub mod RootLeaf
 pub mod SolvedNodes
+pub mod SolvedLeaves

@@ -34,11 +34,15 @@ use Rattle.search_theory.specs.Branchings.{IsLeastOf, IsSolvable, Values}
 one_program : (costs : List ℕ) (rows : List Row) (kept : ℕ) (these others : IsProgram costs rows kept) → these ≡ others
 one_program costs rows kept = hlevel props
 
+abbrev program_with : (costs : List ℕ) (rows : List Row) (kept : ℕ) → IsProgram costs rows kept → Program
+program_with costs rows kept are = record { costs = costs; rows = rows; kept = kept; bounds = are }
+
 same_program : (a b : Program) → a.costs ≡ b.costs → a.rows ≡ b.rows → a.kept ≡ b.kept → a ≡ b
-same_program a b costs rows kept = by b.costs b.rows b.kept b.bounds costs rows kept
-  where
-    by : (cs : List ℕ) (rs : List Row) (k : ℕ) (are : IsProgram cs rs k) → a.costs ≡ cs → a.rows ≡ rs → a.kept ≡ k → a ≡ record { costs = cs; rows = rs; kept = k; bounds = are }
-    by cs rs k are costs rows kept = ?
+same_program a b costs rows kept =
+    subst (λ (cs : List ℕ). (are : IsProgram cs b.rows b.kept) → a ≡ program_with cs b.rows b.kept are) costs
+    (subst (λ (rs : List Row). (are : IsProgram a.costs rs b.kept) → a ≡ program_with a.costs rs b.kept are) rows
+    (subst (λ (k : ℕ). (are : IsProgram a.costs a.rows k) → a ≡ program_with a.costs a.rows k are) kept
+    (λ are. ap (program_with a.costs a.rows a.kept) (one_program a.costs a.rows a.kept a.bounds are)))) b.bounds
 
 -- where its program meets a wide number, the method doesn't solve it
 pub wide_is_unsolved : (e : Election) (start : Ground) (limits : List Limit) (program : Program) → IsGroundIn e start → IsProgramOf start limits program → IsWide program → IsSolvable e (node_of start limits) → ⊥
@@ -85,6 +89,15 @@ rounded (pos n) (pos d) some =
         | inr more ↦ more
       ];
     }
+
+-- the program that is made of the node
+pub made_of : (start : Ground) (read limits : List Limit) (program : Program) → read ≡ limits → program.costs ≡ costs_of start.classes (arcs_under start.goal) → program.rows ≡ program_rows start read
+    → program.kept ≡ length start.sums + length read → IsProgramOf start limits program
+made_of start read limits program same costs rows kept = record {
+  costs = costs;
+  rows = rows ∙ ap (program_rows start) same;
+  kept = kept ∙ ap (λ (ls : List Limit). length start.sums + length ls) same;
+}
 
 -- ---- its bound is its ceiling
 
