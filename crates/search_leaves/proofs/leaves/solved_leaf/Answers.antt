@@ -32,4 +32,5 @@ returns-in-Err-Wide c e is =
     let program = c.in_ok-program.program in
     let made = c.in_ok-program.ensures in
     let own = made_of c.args.seed.start c.as_slice.result.now c.args.seed.limits.items program c.as_slice.ensures.value made.costs made.rows made.kept in
-    wide_leaf e c.args.covered c.args.seed program c.inherited_leaf.result is own c.in-Err-Wide.ensures.wide c.inherited_leaf.ensures
+    let wide = rw c.in-Err-Wide.field-0-is at c.in-Err-Wide.ensures.wide in
+    wide_leaf e c.args.covered c.args.seed program c.inherited_leaf.result is own wide c.inherited_leaf.ensures
