@@ -1,21 +1,27 @@
 -- A cell whose values break a row: what is left of the row's rise where no limit holds it bounds the gains, and the
 -- multipliers cut at each number.
-use Rattle.std.proofs.Common.{◌≡◌, ℕ, zero, suc, ◌+◌, ◌-◌, ◌*◌, ◌≤◌, List, [], ◌∷◌, Bool, true, false, cond, ap, refl, subst, sym, ◌∙◌, inl, inr, arith, All}
+use Rattle.std.proofs.Common.{◌≡◌, ℕ, zero, suc, ◌+◌, ◌-◌, ◌*◌, ◌≤◌, List, [], ◌∷◌, Bool, true, false, cond, map, ap, refl, subst, sym, ◌∙◌, inl, inr, arith, All}
 use Rattle.std.specs.Prelude.{ℤ, pos, ◌+ℤ◌, ◌-ℤ◌, ◌*ℤ◌, ◌≤ℤ◌, ◌<ℤ◌, unsigned_abs}
 use Rattle.std.specs.Int.{int_max}
 use Rattle.std.specs.List.{list_any}
 use Rattle.std.proofs.Math.IntN.{negsuc}
 use Rattle.std.proofs.lemmas.Int.{int_max_is, ints}
 use Rattle.mov_base.specs.Sums.{add_up, most, sum_z}
+use Rattle.mov_base.proofs.Sums.{add_up-append, add_up-map}
 use Rattle.row_program.specs.declared.Feature.{Feature}
+use Rattle.row_program.specs.declared.Feature.TheVariants.{From, Arc}
 use Rattle.row_program.specs.declared.Limit.{Limit}
 use Rattle.row_program.specs.declared.program.Term.{Term}
-use Rattle.goal_rows.specs.Cells.{Variable, low_end}
+use Rattle.sig_graph.specs.Paths.{arcs_of}
+use Rattle.goal_rows.specs.Cells.{Variable, low_end, variables_of}
+use Rattle.goal_rows.specs.declared.parts.Ground.{Ground}
 use Rattle.dual_bound.specs.CellCuts.{above_none, given_in, same_limit, times_on}
-use Rattle.dual_bound.specs.CellParts.{IsFixed}
+use Rattle.dual_bound.specs.CellParts.{IsFixed, variable}
 use Rattle.dual_bound.specs.declared.cell_cuts.Case.TheVariants.{GoalRow}
 use Rattle.dual_bound.specs.Largest.{IsGreatestCut}
+use Rattle.dual_bound.specs.Sizes.{places_of}
 use Rattle.dual_bound.specs.Weighing.{gain_over}
+use Rattle.dual_bound.proofs.CellVariables.{variables_are}
 use Rattle.dual_bound.proofs.GivenLimits.{got, high_or_limit, kept_at, low_or_limit, lower, upper}
 
 -- ---- a number's two parts
@@ -53,7 +59,7 @@ times_parts (negsuc n) r f p is =
 -- ---- one variable
 
 -- before any replacement: what its tight limits bring, and what is left where none holds it
-held_base : (up low : Bool) (rise fall p end : ℕ) (w : ℤ) → w ≡ pos rise -ℤ pos fall → (up ≡ false → p ≡ end) → (low ≡ false → p ≡ 0)
+pub held_base : (up low : Bool) (rise fall p end : ℕ) (w : ℤ) → w ≡ pos rise -ℤ pos fall → (up ≡ false → p ≡ end) → (low ≡ false → p ≡ 0)
     → (pos (cond up rise 0 * p) -ℤ pos (cond low fall 0 * p)) +ℤ pos (cond up 0 rise * end) ≡ w *ℤ pos p
 held_base true true rise fall p end w is at_end at_none = let m = times_parts w rise fall p is in omega (arith, ints, m)
 held_base true false rise fall p end w is at_end at_none = let m = times_parts w rise fall p is in let z = at_none refl in let n : fall * p ≡ 0 = rw z (omega arith) in omega (arith, ints, m, n)
@@ -69,7 +75,7 @@ held_base false false rise fall p end w is at_end at_none =
     omega (arith, ints, m, n, o)
 
 -- where a replacement counts for it
-held_change : (up low : Bool) (rise fall : ℕ) (w : ℤ) → w ≡ pos rise -ℤ pos fall → (w +ℤ (pos (cond low fall 0) -ℤ pos (cond up rise 0))) ≤ℤ pos (cond up 0 rise)
+pub held_change : (up low : Bool) (rise fall : ℕ) (w : ℤ) → w ≡ pos rise -ℤ pos fall → (w +ℤ (pos (cond low fall 0) -ℤ pos (cond up rise 0))) ≤ℤ pos (cond up 0 rise)
 held_change true true rise fall w is = omega (arith, ints, is)
 held_change true false rise fall w is = omega (arith, ints, is)
 held_change false true rise fall w is = omega (arith, ints, is)
@@ -124,6 +130,33 @@ module _ (limits : List Limit) (features : List Feature) (terms : List Term) whe
       let here = one_base v (fixed 0 v (omega arith)) in
       let rest = all_base vs (λ k d lt. fixed (suc k) d (omega (arith, lt))) in
       omega (arith, ints, here, rest)
+
+-- ---- what is left on all variables
+
+turned : (l : Feature → ℕ) (cs : List (ℕ × ℕ)) → add_up (λ c. l (From c.0) * c.1) cs ≡ add_up (λ c. c.1 * l (From c.0)) cs
+turned l [] = refl
+turned l (c ∷ cs) = omega (arith, turned l cs)
+
+so_many : (l : Feature → ℕ) (n : ℕ) (arcs : List (ℕ × ℕ)) → add_up (λ a. l (Arc a.0 a.1) * n) arcs ≡ n * add_up (λ a. l (Arc a.0 a.1)) arcs
+so_many l n [] = omega arith
+so_many l n (a ∷ arcs) =
+    let rest = so_many l n arcs in
+    let both : n * (l (Arc a.0 a.1) + add_up (λ b. l (Arc b.0 b.1)) arcs) ≡ l (Arc a.0 a.1) * n + n * add_up (λ b. l (Arc b.0 b.1)) arcs = omega arith in
+    omega (arith, rest, both)
+
+-- each ballot by its class, and all arcs for each ballot
+pub left_is : (start : Ground) (l : Feature → ℕ) → add_up (λ v. l v.feature * v.end) (variables_of start)
+    ≡ add_up (λ c. c.1 * l (From c.0)) start.classes + start.ballots * add_up (λ a. l (Arc a.0 a.1)) (arcs_of (places_of start.goal))
+left_is start l =
+    let f : Variable → ℕ = λ v. l v.feature * v.end in
+    let all = arcs_of (places_of start.goal) in
+    let class_of : ℕ × ℕ → Variable = λ c. variable (From c.0) c.1 in
+    let arc_of : ℕ × ℕ → Variable = λ a. variable (Arc a.0 a.1) start.ballots in
+    let whole = ap (add_up f) (variables_are start) in
+    let split = add_up-append f (map class_of start.classes) (map arc_of all) in
+    let one = add_up-map f class_of start.classes in
+    let two = add_up-map f arc_of all in
+    omega (arith, whole, split, one, two, turned l start.classes, so_many l start.ballots all)
 
 -- ---- gains
 

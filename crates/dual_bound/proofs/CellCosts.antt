@@ -76,12 +76,12 @@ cost_is_greatest base cost end gs is ones enough long = record {
 
 -- ---- rows with multipliers of 0
 
-none_times : (z : ℤ) → pos 0 *ℤ z ≡ pos 0
+pub none_times : (z : ℤ) → pos 0 *ℤ z ≡ pos 0
 none_times (pos n) = omega (arith, ints)
 none_times (negsuc n) = omega (arith, ints)
 
 -- multipliers that are all 0
-abbrev AreZeros : List ℕ → Type 0
+abbrev pub AreZeros : List ℕ → Type 0
 AreZeros [] = Unit {0}
 AreZeros (l ∷ ls) = (l ≡ 0) × AreZeros ls
 
@@ -89,7 +89,7 @@ range_zeros : (a n : ℕ) → AreZeros (map (λ r. one_where false) (range_with_
 range_zeros a zero = tt
 range_zeros a (suc n) = (refl, range_zeros (a + 1) n)
 
-zeros_times : {A : Type 0} (f : ℕ × A → ℤ) (ls : List ℕ) (xs : List A) → ((x : A) → f (0, x) ≡ pos 0) → AreZeros ls → sum_z f (zip ls xs) ≡ pos 0
+pub zeros_times : {A : Type 0} (f : ℕ × A → ℤ) (ls : List ℕ) (xs : List A) → ((x : A) → f (0, x) ≡ pos 0) → AreZeros ls → sum_z f (zip ls xs) ≡ pos 0
 zeros_times f [] xs none all = refl
 zeros_times f (l ∷ ls) [] none all = refl
 zeros_times f (l ∷ ls) (x ∷ xs) none all =
@@ -234,7 +234,7 @@ pub by_key : (key : ℕ) (g : Feature) → is_from key g ≡ same_feature (From 
 by_key key (From other) = refl
 by_key key (Arc u p) = refl
 
-by_arc : (a : ℕ × ℕ) (g : Feature) → is_arc a g ≡ same_feature (Arc a.0 a.1) g
+pub by_arc : (a : ℕ × ℕ) (g : Feature) → is_arc a g ≡ same_feature (Arc a.0 a.1) g
 by_arc a (From key) = refl
 by_arc a (Arc u p) = refl
 
@@ -253,13 +253,13 @@ arc_brings limits features a =
     let d = lower_arc limits features a.0 a.1 in
     omega (arith, ints, h, u, d)
 
-rows_none : (m : ℕ) (rows : List ℕ) (a : ℕ × ℕ) → AreZeros rows → rows_bring m rows a ≡ pos 0
+pub rows_none : (m : ℕ) (rows : List ℕ) (a : ℕ × ℕ) → AreZeros rows → rows_bring m rows a ≡ pos 0
 rows_none m rows a all = zeros_times (λ r. pos r.0 *ℤ row_weight_of r.1.0 r.1.1 a) rows (row_places m) (λ r. none_times (row_weight_of r.0 r.1 a)) all
 
 abbrev with_goal : Ground → Goal → Ground
 with_goal start goal = record { goal = goal; classes = start.classes; sums = start.sums; ballots = start.ballots; lone = start.lone }
 
-cost_none : (start : Ground) (goal : Goal) (rows : List ℕ) (key : ℕ) → HasFeatures goal → AreZeros rows → rows_cost (with_goal start goal) rows key ≡ pos 0
+pub cost_none : (start : Ground) (goal : Goal) (rows : List ℕ) (key : ℕ) → HasFeatures goal → AreZeros rows → rows_cost (with_goal start goal) rows key ≡ pos 0
 cost_none start Root rows key has all = absurd has
 cost_none start (Suffix suffix) rows key has all =
     path_none (length suffix) 0 (rows_bring (length suffix) rows) (places_by (length suffix) key) (λ a. rows_none (length suffix) rows a all)

@@ -1,5 +1,5 @@
 -- A cell of a cover whose values break a row of the goal is cut at each number.
-use Rattle.std.proofs.Common.{◌≡◌, ℕ, zero, suc, ◌+◌, ◌*◌, ◌<◌, ◌≤◌, List, [], ◌∷◌, ◌++◌, true, Some, cond, drop, get_or, length, map, take, ap, refl, subst, sym, ◌∙◌, arith}
+use Rattle.std.proofs.Common.{◌≡◌, ℕ, zero, suc, ◌+◌, ◌*◌, ◌<◌, ◌≤◌, List, [], ◌∷◌, ◌++◌, true, Some, cond, drop, get_or, length, map, take, ap, refl, sym, ◌∙◌, arith}
 use Rattle.std.specs.Prelude.{Contains, ℤ, pos, ◌+ℤ◌, ◌-ℤ◌, ◌*ℤ◌, ◌<ℤ◌, int_lt, nat_lt}
 use Rattle.std.specs.List.{list_any, range_with_len}
 use Rattle.std.proofs.Math.IntN.{negsuc}
@@ -9,19 +9,15 @@ use Rattle.std.proofs.lemmas.List.{get_or_append_left, length-append, length-map
 use Rattle.std.proofs.lemmas.List.FromFn.{length-range_with_len}
 use Rattle.std.proofs.lemmas.List.Quantifiers.{position-Some}
 use Rattle.mov_base.specs.Sums.{add_up, sum_z}
-use Rattle.mov_base.proofs.Sums.{add_up-append, add_up-map}
 use Rattle.ballot_form.specs.Scores.{is_some_of}
 use Rattle.irv_count.proofs.Members.{differ_test, same_test}
 use Rattle.row_program.specs.Forms.{empty_row}
 use Rattle.row_program.specs.Points.{row_value}
 use Rattle.row_program.specs.declared.Feature.{Feature}
-use Rattle.row_program.specs.declared.Feature.TheVariants.{From, Arc}
+use Rattle.row_program.specs.declared.Feature.TheVariants.{From}
 use Rattle.row_program.specs.declared.Limit.{Limit}
 use Rattle.row_program.specs.declared.program.Row.{Row}
 use Rattle.row_program.specs.declared.program.Term.{Term}
-use Rattle.signature_class.specs.Classes as classes
-use Rattle.signature_class.proofs.Counts.{keys_are_classes}
-use Rattle.sig_graph.specs.Paths.{arcs_of}
 use Rattle.sig_graph.specs.Rows.{one_where}
 use Rattle.goal_rows.specs.Cells.{IsCell, Variable, cell_values, low_end, variables_of}
 use Rattle.goal_rows.specs.Elections.{Election}
@@ -34,17 +30,15 @@ use Rattle.goal_rows.specs.declared.goals.Goal.TheVariants.{Cover}
 use Rattle.goal_rows.specs.declared.parts.Ground.{Ground}
 use Rattle.goal_rows.proofs.GroundSizes.{goal_rows_count, weighings_count}
 use Rattle.dual_bound.specs.CellCuts.{case_of, cell_multipliers, features_of, first_broken, given_each, given_in, is_broken, is_unbounded, terms_at, times_on}
-use Rattle.dual_bound.specs.CellParts.{variable}
 use Rattle.dual_bound.specs.CutTest.{AreMultipliers, IsBound}
 use Rattle.dual_bound.specs.declared.cell_cuts.Case.TheVariants.{GoalRow, FlowRow}
-use Rattle.dual_bound.specs.Sizes.{places_of}
 use Rattle.dual_bound.specs.Weighing.{IsBestNew, base_by, cost_by, gain_by, is_from, limit_start, limits_bring, of_limits, of_rows, over_weight, times_all}
-use Rattle.dual_bound.proofs.CellBreaks.{all_base, cut_beyond, gain_most, left_on, one_change, weight}
+use Rattle.dual_bound.proofs.CellBreaks.{all_base, cut_beyond, gain_most, left_is, left_on, one_change, weight}
 use Rattle.dual_bound.proofs.CellCosts.{by_key, drop_front, take_front}
-use Rattle.dual_bound.proofs.CellFeatures.{counted_once}
+use Rattle.dual_bound.proofs.CellFeatures.{counted_once, key_there}
 use Rattle.dual_bound.proofs.CellMultipliers.{row_part}
 use Rattle.dual_bound.proofs.CellRowValues.{row_in_cell, row_of_items, sum_z-map, times_are, weight_on, weights_are, weights_over}
-use Rattle.dual_bound.proofs.CellVariables.{map_twice, on_class, variables_are}
+use Rattle.dual_bound.proofs.CellVariables.{map_twice}
 use Rattle.dual_bound.proofs.Exact.{bound_is_exact, grouped_keys}
 use Rattle.dual_bound.proofs.GivenLimits.{kept_at, limits_base, limits_on}
 
@@ -61,7 +55,7 @@ one_more (negsuc n) = omega (arith, ints)
 on_row : (r k : ℕ) → r ≡ k → one_where (is_some_of (Some r) k) ≡ 1
 on_row r k same = rw (same_test r k same) refl
 
-off_row : (r k : ℕ) → (r ≡ k → ⊥) → one_where (is_some_of (Some r) k) ≡ 0
+pub off_row : (r k : ℕ) → (r ≡ k → ⊥) → one_where (is_some_of (Some r) k) ≡ 0
 off_row r k differ = rw (differ_test r k differ) refl
 
 past_row : (r a n : ℕ) (vs : List ℤ) → r < a → times_all (map (λ k. one_where (is_some_of (Some r) k)) (range_with_len a n)) vs ≡ pos 0
@@ -73,7 +67,7 @@ past_row r a (suc n) (v ∷ vs) lt =
     let rest = past_row r (a + 1) n vs (omega (arith, lt)) in
     omega (arith, ints, here, rest)
 
-unit_times : (r a n i : ℕ) (vs : List ℤ) → a + i ≡ r → i < n → i < length vs → times_all (map (λ k. one_where (is_some_of (Some r) k)) (range_with_len a n)) vs ≡ get_or vs i (pos 0)
+pub unit_times : (r a n i : ℕ) (vs : List ℤ) → a + i ≡ r → i < n → i < length vs → times_all (map (λ k. one_where (is_some_of (Some r) k)) (range_with_len a n)) vs ≡ get_or vs i (pos 0)
 unit_times r a zero i vs at low within = absurd (omega (arith, low))
 unit_times r a (suc n) i [] at low within = absurd (omega (arith, within))
 unit_times r a (suc n) zero (v ∷ vs) at low within =
@@ -91,7 +85,7 @@ past_sum : (r a n : ℕ) → r < a → add_up (λ l. l) (map (λ k. one_where (i
 past_sum r a zero lt = refl
 past_sum r a (suc n) lt = let off = off_row r a (λ e. omega (arith, e, lt)) in omega (arith, off, past_sum r (a + 1) n (omega (arith, lt)))
 
-unit_sum : (r a n i : ℕ) → a + i ≡ r → i < n → add_up (λ l. l) (map (λ k. one_where (is_some_of (Some r) k)) (range_with_len a n)) ≡ 1
+pub unit_sum : (r a n i : ℕ) → a + i ≡ r → i < n → add_up (λ l. l) (map (λ k. one_where (is_some_of (Some r) k)) (range_with_len a n)) ≡ 1
 unit_sum r a zero i at low = absurd (omega (arith, low))
 unit_sum r a (suc n) zero at low = let on = on_row r a (omega (arith, at)) in omega (arith, on, past_sum r (a + 1) n (omega (arith, at)))
 unit_sum r a (suc n) (suc i) at low =
@@ -127,17 +121,17 @@ goal_row_at e start limits r is low =
         get_or_append_left (a ++ b ++ c) d empty_row r (omega (arith, lt, one, two)) ∙ get_or_append_left (a ++ b) c empty_row r (omega (arith, lt, one)) ∙ get_or_append_left a b empty_row r lt
 
 -- a number below 0 by the test
-below_by : (z : ℤ) → int_lt z (pos 0) ≡ true → z <ℤ pos 0
+pub below_by : (z : ℤ) → int_lt z (pos 0) ≡ true → z <ℤ pos 0
 below_by z on = omega (arith, ints, on)
 
-sums_on : (f g : Feature → ℤ) (fs : List Feature) → ((h : Feature) → Contains fs h → f h ≡ g h) → sum_z f fs ≡ sum_z g fs
+pub sums_on : (f g : Feature → ℤ) (fs : List Feature) → ((h : Feature) → Contains fs h → f h ≡ g h) → sum_z f fs ≡ sum_z g fs
 sums_on f g [] same = refl
 sums_on f g (h ∷ fs) same =
     let here = same h (0, omega arith, refl) in
     let rest = sums_on f g fs (λ k there. same k (suc there.0, omega (arith, there.1), there.2)) in
     omega (arith, ints, here, rest)
 
-made_most : (f g : ℕ → ℕ) (keys : List ℕ) → ((k : ℕ) → Contains keys k → f k ≤ g k) → add_up (λ x. x) (map f keys) ≤ add_up g keys
+pub made_most : (f g : ℕ → ℕ) (keys : List ℕ) → ((k : ℕ) → Contains keys k → f k ≤ g k) → add_up (λ x. x) (map f keys) ≤ add_up g keys
 made_most f g [] le = omega arith
 made_most f g (k ∷ keys) le =
     omega (arith, le k (0, omega arith, refl), made_most f g keys (λ j there. le j (suc there.0, omega (arith, there.1), there.2)))
@@ -202,24 +196,7 @@ module _ (e : Election) (start : Ground) (limits : List Limit) (r : ℕ) (is : I
 
   -- the classes' part of what is left
   pub class_left : add_up (λ c. c.1 * left_on limits (features_of start) broken_terms (From c.0)) start.classes ≤ all_left
-  class_left =
-      let l = left_on limits (features_of start) broken_terms in
-      let classes = map (λ (c : ℕ × ℕ). variable (From c.0) c.1) start.classes in
-      let arcs = map (λ (a : ℕ × ℕ). variable (Arc a.0 a.1) start.ballots) (arcs_of (places_of start.goal)) in
-      let whole = ap (add_up (λ (v : Variable). l v.feature * v.end)) (variables_are start) in
-      let split = add_up-append (λ (v : Variable). l v.feature * v.end) classes arcs in
-      let one = add_up-map (λ (v : Variable). l v.feature * v.end) (λ (c : ℕ × ℕ). variable (From c.0) c.1) start.classes in
-      let turn = turned l start.classes in
-      omega (arith, whole, split, one, turn)
-    where
-      turned : (l : Feature → ℕ) (cs : List (ℕ × ℕ)) → add_up (λ c. l (From c.0) * c.1) cs ≡ add_up (λ c. c.1 * l (From c.0)) cs
-      turned l [] = refl
-      turned l (c ∷ cs) = omega (arith, turned l cs)
-
-  -- the keys of ballots are features
-  pub key_there : (k : ℕ) → Contains (keys_of e start.goal) k → Contains (features_of start) (From k)
-  key_there k there =
-      (on_class start k).1 (subst (λ cs. Contains (classes.keys_of cs) k) (sym is.values.classes) (((keys_are_classes (keys_of e start.goal)).keys k).0 there))
+  class_left = omega (arith, left_is start (left_on limits (features_of start) broken_terms))
 
 -- ---- covers
 
@@ -248,7 +225,7 @@ cover_cut e start x limits r is few cell are broken low =
     ∙ unit_times r 0 n r (map (over_weight x k) js) (omega arith) low (omega (arith, m, count, low))
     ∙ at_of (over_weight x k) js r (pos 0) 0 (omega (arith, count, low)) in
     let bring = ap (λ xs. limits_bring (is_from k) xs limits) more ∙ limits_on limits (gives e here limits r is cell broken low) (From k) (is_from k) (by_key k) [] limits in
-    let w = weight_is e here limits r is cell broken low (From k) (key_there e here limits r is cell broken low k there) in
+    let w = weight_is e here limits r is cell broken low (From k) (key_there e here is.values k there) in
     let over : key_at here r k ≡ pos 1 -ℤ over_weight x k (get_or js r 0) =
     ap (λ (f : ℕ → ℤ). f k) (ap (λ (fs : List (ℕ → ℤ)). get_or fs r (λ k. pos 0)) (map_twice key_weight _ js) ∙ at_of (λ j k. pos 1 -ℤ over_weight x k j) js r (λ k. pos 0) 0 (omega (arith, count, low))) in
     let change = one_change limits features (broken_terms e here limits r is cell broken low) (From k) in

@@ -117,3 +117,8 @@ counted_once e start (Arc u x) values there =
     let one = count_one arcs (Arc u x) (arc_apart m (Arc u x)) (arc_there m u x ((on_arc start u x).0 there)) in
     let none = no_classes u x start.classes in
     omega (arith, whole, split, one, none)
+
+-- the keys of ballots are features
+pub key_there : (e : Election) (start : Ground) → IsGroundOf e start → (k : ℕ) → Contains (goal_keys e start.goal) k → Contains (features_of start) (From k)
+key_there e start values k there =
+    (on_class start k).1 (subst (λ cs. Contains (keys_of cs) k) (sym values.classes) (((keys_are_classes (goal_keys e start.goal)).keys k).0 there))

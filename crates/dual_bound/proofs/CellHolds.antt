@@ -18,19 +18,15 @@ use Rattle.row_program.specs.declared.Limit.{Limit}
 use Rattle.row_program.specs.declared.program.Row.{Row}
 use Rattle.goal_rows.specs.Cells.{IsCell, Variable, cell_values, high_end, low_end, same_feature, variables_of}
 use Rattle.goal_rows.specs.Elections.{Election}
-use Rattle.goal_rows.specs.Nodes.{AreLimits, node_of}
 use Rattle.goal_rows.specs.Programs.{IsPointOf, class_row, class_rows_of, flow_rows_of, goal_rows_of, has_ends, has_key, limit_rows_of, one_more_in, program_rows, row_by, value_before}
 use Rattle.goal_rows.specs.Races.{IsGroundIn}
-use Rattle.goal_rows.specs.declared.goals.Goal.{Goal}
-use Rattle.goal_rows.specs.declared.goals.Goal.TheVariants.{Root, Suffix, Pair, Cover}
 use Rattle.goal_rows.specs.declared.parts.Ground.{Ground}
 use Rattle.goal_rows.proofs.GroundSizes.{goal_rows_count}
-use Rattle.dual_bound.specs.CellCuts.{cell_multipliers, features_of, first_broken, is_broken}
+use Rattle.dual_bound.specs.CellCuts.{features_of, first_broken, is_broken}
 use Rattle.dual_bound.specs.CellParts.{variable}
-use Rattle.dual_bound.specs.CutTest.{AreMultipliers, IsBound}
 use Rattle.dual_bound.proofs.CellBreaks.{times_parts}
 use Rattle.dual_bound.proofs.CellCosts.{arc_values, class_values}
-use Rattle.dual_bound.proofs.CellCovers.{at_of, cover_cut, with_goal}
+use Rattle.dual_bound.proofs.CellCovers.{at_of}
 use Rattle.dual_bound.proofs.CellEnds.{high_below}
 use Rattle.dual_bound.proofs.CellFeatures.{counted_once}
 use Rattle.dual_bound.proofs.CellRowValues.{row_in_cell, weight_on, weights_over}
@@ -81,13 +77,13 @@ sums_same f g [] same = refl
 sums_same f g (x ∷ xs) same = let h = same x in let r = sums_same f g xs same in omega (arith, ints, h, r)
 
 -- what a limit's row counts for keys and arcs
-abbrev key_part : Limit → ℕ → ℤ
+abbrev pub key_part : Limit → ℕ → ℤ
 key_part l k = cond (has_key k l.feature) (one_more_in l) (pos 0)
 
-abbrev arc_part : Limit → ℕ × ℕ → ℤ
+abbrev pub arc_part : Limit → ℕ × ℕ → ℤ
 arc_part l a = cond (has_ends a l.feature) (one_more_in l) (pos 0)
 
-part_is : (l : Limit) (f : Feature) → weight_on (key_part l) (arc_part l) f ≡ cond (same_feature f l.feature) (one_more_in l) (pos 0)
+pub part_is : (l : Limit) (f : Feature) → weight_on (key_part l) (arc_part l) f ≡ cond (same_feature f l.feature) (one_more_in l) (pos 0)
 part_is l (From k) = refl
 part_is l (Arc u p) = refl
 
@@ -140,7 +136,7 @@ class_value_at low [] rest k lt = absurd (omega (arith, lt))
 class_value_at low (c ∷ cs) rest zero lt = refl
 class_value_at low (c ∷ cs) rest (suc k) lt = class_value_at low cs rest k (omega (arith, lt))
 
-range_at : (a n k d : ℕ) → k < n → get_or (range_with_len a n) k d ≡ a + k
+pub range_at : (a n k d : ℕ) → k < n → get_or (range_with_len a n) k d ≡ a + k
 range_at a zero k d lt = absurd (omega (arith, lt))
 range_at a (suc n) zero d lt = omega arith
 range_at a (suc n) (suc k) d lt = let h = range_at (a + 1) n k d (omega (arith, lt)) in omega (arith, h)
@@ -177,7 +173,8 @@ class_count cs = length-map (range_with_len 0 (length cs)) _ ∙ length-range_wi
 
 -- a broken row is one of the goal, or stands behind those of the classes
 pub broken_where : (e : Election) (start : Ground) (limits : List Limit) (r : ℕ) → IsGroundIn e start → IsCell start limits → first_broken start limits ≡ Some r
-    → (r < length start.sums) ⊎ ((j : ℕ) × (j < length (flow_rows_of start)) × (is_broken (cell_values start limits) (get_or (flow_rows_of start) j empty_row) ≡ true))
+    → (r < length start.sums)
+    ⊎ ((j : ℕ) × (j < length (flow_rows_of start)) × (length start.sums ≤ r) × (get_or (program_rows start limits) r empty_row ≡ get_or (flow_rows_of start) j empty_row))
 broken_where e start limits r is cell broken =
     let at = position-Some (is_broken (cell_values start limits)) (program_rows start limits) r empty_row broken in
     by (goal_rows_of start) (limit_rows_of start limits) (class_rows_of start.classes) (flow_rows_of start) (goal_rows_count start (e, is)) at.0 at.1
@@ -187,7 +184,7 @@ broken_where e start limits r is cell broken =
     by : (a b c d : List Row) → length a ≡ length start.sums → r < length (a ++ b ++ c ++ d) → is_broken (cell_values start limits) (get_or (a ++ b ++ c ++ d) r empty_row) ≡ true
         → ((k : ℕ) → k < length b → pos 0 ≤ℤ row_value (get_or b k empty_row) (cell_values start limits) 1)
         → ((k : ℕ) → k < length c → pos 0 ≤ℤ row_value (get_or c k empty_row) (cell_values start limits) 1)
-        → (r < length start.sums) ⊎ ((j : ℕ) × (j < length d) × (is_broken (cell_values start limits) (get_or d j empty_row) ≡ true))
+        → (r < length start.sums) ⊎ ((j : ℕ) × (j < length d) × (length start.sums ≤ r) × (get_or (a ++ b ++ c ++ d) r empty_row ≡ get_or d j empty_row))
     by a b c d count lt on limits_hold classes_hold =
         let one = length-append a b in
         let two = length-append (a ++ b) c in
@@ -209,7 +206,7 @@ broken_where e start limits r is cell broken =
                   absurd (not_broken (row_value (get_or c (r - length (a ++ b)) empty_row) (cell_values start limits) 1) there (classes_hold (r - length (a ++ b)) (omega (arith, class, further, two))))
               | inr flow ↦
                   let e1 = get_or-append_right (a ++ b ++ c) d (length (a ++ b ++ c)) r empty_row refl flow in
-                  inr (r - length (a ++ b ++ c), omega (arith, lt, flow, three), subst (λ row. is_broken (cell_values start limits) row ≡ true) e1 on)
+                  inr (r - length (a ++ b ++ c), omega (arith, lt, flow, three), omega (arith, flow, one, two, count), e1)
             ]
           ]
         ]
@@ -238,33 +235,9 @@ point_where_none start limits none = record {
         let le = all_fail (position_or_len p rows) (length rows) none in
         fails_before_first p rows k d (omega (arith, lt, le))
 
-some_broken : (start : Ground) (limits : List Limit) → (IsPointOf start limits (cell_values start limits) 1 → ⊥) → (r : ℕ) × (first_broken start limits ≡ Some r)
+pub some_broken : (start : Ground) (limits : List Limit) → (IsPointOf start limits (cell_values start limits) 1 → ⊥) → (r : ℕ) × (first_broken start limits ≡ Some r)
 some_broken start limits never = by (first_broken start limits) refl
   where
     by : (o : Option ℕ) → first_broken start limits ≡ o → (r : ℕ) × (first_broken start limits ≡ Some r)
     by None e = absurd (never (point_where_none start limits e))
     by (Some r) e = (r, e)
-
--- ---- covers
-
-no_flow : (x : ℕ) (start : Ground) → length (flow_rows_of (with_goal start (Cover x))) ≡ 0
-no_flow x start = refl
-
-cover_by : (e : Election) (start : Ground) (goal : Goal) (x : ℕ) (limits : List Limit) → IsGroundIn e (with_goal start goal) → AreLimits e (node_of (with_goal start goal) limits)
-    → IsCell (with_goal start goal) limits → AreMultipliers (with_goal start goal) limits (cell_multipliers (with_goal start goal) limits) → goal ≡ Cover x
-    → (IsPointOf (with_goal start goal) limits (cell_values (with_goal start goal) limits) 1 → ⊥)
-    → IsBound e (node_of (with_goal start goal) limits) (cell_multipliers (with_goal start goal) limits) (start.ballots + 1)
-cover_by e start (Cover y) x limits is few cell are same never =
-    let some = some_broken (with_goal start (Cover y)) limits never in
-    elim (broken_where e (with_goal start (Cover y)) limits some.0 is cell some.1) [
-      | inl low ↦ cover_cut e start y limits some.0 is few cell are some.1 low
-      | inr flow ↦ absurd (let none = no_flow y start in omega (arith, flow.1, none))
-    ]
-cover_by e start Root x limits is few cell are same never = absurd (let h : Root ≡ Cover x = same in cc)
-cover_by e start (Suffix suffix) x limits is few cell are same never = absurd (let h : Suffix suffix ≡ Cover x = same in cc)
-cover_by e start (Pair g l) x limits is few cell are same never = absurd (let h : Pair g l ≡ Cover x = same in cc)
-
-pub cover_beyond : (e : Election) (start : Ground) (x : ℕ) (limits : List Limit) → IsGroundIn e start → AreLimits e (node_of start limits) → IsCell start limits
-    → AreMultipliers start limits (cell_multipliers start limits) → start.goal ≡ Cover x → (IsPointOf start limits (cell_values start limits) 1 → ⊥)
-    → IsBound e (node_of start limits) (cell_multipliers start limits) (start.ballots + 1)
-cover_beyond e start x limits is few cell are same never = cover_by e start start.goal x limits is few cell are same never

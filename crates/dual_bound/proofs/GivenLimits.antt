@@ -18,20 +18,20 @@ use Rattle.dual_bound.specs.Weighing.{limit_start, limits_bring, signed, times_a
 
 -- ---- tests
 
-and_left : (a b : Bool) → (a && b) ≡ true → a ≡ true
+pub and_left : (a b : Bool) → (a && b) ≡ true → a ≡ true
 and_left true b e = refl
 and_left false b e = e
 
-and_right : (a b : Bool) → (a && b) ≡ true → b ≡ true
+pub and_right : (a b : Bool) → (a && b) ≡ true → b ≡ true
 and_right true b e = e
 and_right false b e = absurd (let clash : false ≡ true = e in cc)
 
-both_on : (a b : Bool) → a ≡ true → b ≡ true → (a && b) ≡ true
+pub both_on : (a b : Bool) → a ≡ true → b ≡ true → (a && b) ≡ true
 both_on true true p q = refl
 both_on true false p q = q
 both_on false b p q = p
 
-eq_test : (a b : ℕ) → (a == b) ≡ true → a ≡ b
+pub eq_test : (a b : ℕ) → (a == b) ≡ true → a ≡ b
 eq_test a b e = elim (cases_eq a b) [ inl same ↦ same | inr differ ↦ absurd (let off = differ_test a b differ in let clash : false ≡ true = sym off ∙ e in cc) ]
 
 pub same_feature_is : (f g : Feature) → same_feature f g ≡ true → f ≡ g

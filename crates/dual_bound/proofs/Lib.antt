@@ -26,3 +26,12 @@ pub mod CellRowValues
 pub mod CellBreaks
 pub mod CellCovers
 pub mod CellHolds
+pub mod SideBySide
+pub mod HeldPlaces
+pub mod SuffixWorths
+pub mod SomeBest
+pub mod PathTotals
+pub mod CellSuffixes
+pub mod FlowRows
+pub mod CellFlows
+pub mod CellBeyond

@@ -10,7 +10,6 @@ ghost use Rattle.goal_rows.specs.Cells.{HasFeatures, IsCell, cell_values as valu
 ghost use Rattle.goal_rows.specs.Elections.{Election};
 ghost use Rattle.goal_rows.specs.Nodes.{AreLimits, node_of};
 ghost use Rattle.goal_rows.specs.Races.{IsGroundIn, IsSomeGround};
-ghost use Rattle.goal_rows.specs.declared.goals.Goal.TheVariants.{Cover};
 ghost use Rattle.goal_rows.specs.Programs.{IsPointOf, point_cost_of};
 ghost use Rattle.dual_bound.specs.CutTest.{AreMultipliers, IsBound};
 ghost use Rattle.dual_bound.specs.CellCuts.{above_none as number_above, case_of as case_where, cell_multipliers, classes_in as one_of_class};
@@ -54,9 +53,8 @@ pub fn cell_cut(alloc: Global, start: &Ground, limits: &[Limit]) -> Result<Multi
     ensures cost { IsPointOf start.now limits.now (values_of start.now limits.now) 1 →
         (e : Election) → IsGroundIn e start.now → IfOk result (λ multipliers. IsBound e
         (node_of start.now limits.now) multipliers (point_cost_of start.now (values_of start.now limits.now))) }
-    // Where those of a cover break a row, one more than there are ballots is.
-    ensures beyond { (x : ℕ) → start.now.goal ≡ Cover x →
-        (IsPointOf start.now limits.now (values_of start.now limits.now) 1 → ⊥) →
+    // Where they break a row, one more than there are ballots is.
+    ensures beyond { (IsPointOf start.now limits.now (values_of start.now limits.now) 1 → ⊥) →
         (e : Election) → IsGroundIn e start.now → IfOk result (λ multipliers.
         IsBound e (node_of start.now limits.now) multipliers (start.now.ballots + 1)) }
 {

@@ -1,13 +1,11 @@
 -- Sums over the arcs of a suffix, and the rows of a flow.
 use Rattle.std.proofs.Common.{◌≡◌, ◌≢◌, ℕ, zero, suc, ◌+◌, ◌-◌, ◌*◌, ◌<◌, ◌≤◌, List, [], ◌∷◌, length, get_or, map, refl, sym, ap, ◌∙◌, inl, inr, arith}
 use Rattle.std.specs.Prelude.{pos, ◌-ℤ◌, ◌==◌}
-use Rattle.std.specs.List.{flat_map, range_with_len}
+use Rattle.std.specs.List.{range_with_len}
 use Rattle.std.proofs.lemmas.Bool.{cases_eq, cases_lt}
 use Rattle.std.proofs.lemmas.Int.{ints}
 use Rattle.std.proofs.lemmas.List.{ext_get_or, length-map}
-use Rattle.std.proofs.lemmas.List.Concat.{flat_map-cons}
 use Rattle.mov_base.specs.Sums.{add_up}
-use Rattle.mov_base.proofs.Sums.{add_up-append, add_up-map}
 use Rattle.irv_count.proofs.Members.{differ_test, same_test}
 use Rattle.sig_graph.specs.Flows.{flow_at, flow_in, flow_out}
 use Rattle.sig_graph.specs.Paths.{arc_total, arcs_of}
@@ -15,9 +13,10 @@ use Rattle.sig_graph.specs.Rows.{one_where}
 use Rattle.sig_graph.proofs.ArcNumbers.{arc_of, get_or-each, length-arcs_of}
 use Rattle.sig_graph.proofs.Ranges.{range-none, range-same}
 use Rattle.dual_bound.specs.Weighing.{times_all}
-use Rattle.node_bounds.proofs.SideBySide.{minus_inside}
+use Rattle.dual_bound.proofs.PathTotals.{by_rows}
+use Rattle.dual_bound.proofs.SideBySide.{minus_inside}
 
--- ---- sums over ranges and lists of lists
+-- ---- sums over ranges
 
 -- one term alone
 range-alone : (g : ℕ → ℕ) (x a n : ℕ) → ((b : ℕ) → a ≤ b → b < a + n → b ≢ x → g b ≡ 0) → a ≤ x → x < a + n → add_up g (range_with_len a n) ≡ g x
@@ -44,19 +43,7 @@ range-ends g h a (suc n) k same none =
     let later = range-ends g h (a + 1) n k (λ b le lt. same b (omega arith) (omega arith)) (λ b le lt. none b (omega arith) (omega arith)) in
     ap (λ j. add_up g (range_with_len a j)) e ∙ omega (arith, here, later)
 
-add_up-lists : {A B : Type 0} (f : B → ℕ) (make : A → List B) (xs : List A) → add_up f (flat_map make xs) ≡ add_up (λ x. add_up f (make x)) xs
-add_up-lists f make [] = refl
-add_up-lists f make (x ∷ xs) =
-    ap (add_up f) (flat_map-cons make x xs) ∙ add_up-append f (make x) (flat_map make xs) ∙ ap (λ n. add_up f (make x) + n) (add_up-lists f make xs)
-
 -- ---- sums over arcs
-
--- row by row
-by_rows : (m : ℕ) (f : ℕ × ℕ → ℕ) → add_up f (arcs_of m) ≡ add_up (λ u. add_up (λ x. f (u, x)) (range_with_len (u + 1) (m - u))) (range_with_len 0 m)
-by_rows m f =
-    add_up-lists f (λ u. map (λ x. (u, x)) (range_with_len (u + 1) (m - u))) (range_with_len 0 m)
-    ∙ range-same (λ u. add_up f (map (λ x. (u, x)) (range_with_len (u + 1) (m - u)))) (λ u. add_up (λ x. f (u, x)) (range_with_len (u + 1) (m - u))) 0 m
-    (λ u from to. add_up-map f (λ x. (u, x)) (range_with_len (u + 1) (m - u)))
 
 counted : (f u v : ℕ) → u ≡ v → f * one_where (u == v) ≡ f
 counted f u v same = rw (same_test u v same) (omega arith)

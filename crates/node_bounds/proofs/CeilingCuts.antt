@@ -35,8 +35,9 @@ use Rattle.node_bounds.proofs.PointValues.{all_numbers, apart, class_gains, cost
 use Rattle.node_bounds.proofs.RestRows.{IsMetAt, classes_within}
 use Rattle.node_bounds.proofs.RowValues.{AreCounted, limit_count}
 use Rattle.node_bounds.proofs.TakenGains.{gained-le_most, taken}
-use Rattle.node_bounds.proofs.SideBySide.{turned, one_time}
-use Rattle.node_bounds.proofs.Worths.{some_best, worths_of}
+use Rattle.dual_bound.proofs.SideBySide.{turned, one_time}
+use Rattle.dual_bound.proofs.SomeBest.{some_best}
+use Rattle.node_bounds.proofs.Worths.{worths_of}
 
 -- ---- whole numbers
 

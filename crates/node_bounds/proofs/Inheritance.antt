@@ -20,7 +20,7 @@ use Rattle.goal_rows.proofs.GroundSizes.{sums_of}
 use Rattle.dual_bound.specs.CutTest.{AreGains, Cuts, CutsKept, IsGain, base_of, change_by, weighed_of}
 use Rattle.node_bounds.specs.Ceilings.{IsCeiling}
 use Rattle.node_bounds.specs.Inherited.{inherited_by_half, inherited_by_kid}
-use Rattle.node_bounds.proofs.SideBySide.{none_times}
+use Rattle.dual_bound.proofs.SideBySide.{none_times}
 use Rattle.node_bounds.proofs.CeilingCuts.{cut_within_ceiling}
 
 -- ---- rows and limits that come to the same

@@ -1,6 +1,4 @@
-pub mod SideBySide
 pub mod RowValues
-pub mod HeldPlaces
 pub mod KeyWorths
 pub mod ArcSums
 pub mod RestRows
@@ -12,3 +10,4 @@ pub mod CeilingSizes
 pub mod Inheritance
 pub mod PairBounds
 pub mod OneCeiling
+pub mod CellPoints

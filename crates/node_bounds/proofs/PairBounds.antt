@@ -27,8 +27,9 @@ use Rattle.node_bounds.proofs.PointValues.{all_numbers, class_gains, cost_is, ta
 use Rattle.node_bounds.proofs.RestRows.{IsMetAt}
 use Rattle.node_bounds.proofs.RowValues.{rows_kept}
 use Rattle.node_bounds.proofs.TakenGains.{taken}
-use Rattle.node_bounds.proofs.SideBySide.{one_time}
-use Rattle.node_bounds.proofs.Worths.{some_best, worths_of}
+use Rattle.dual_bound.proofs.SideBySide.{one_time}
+use Rattle.dual_bound.proofs.SomeBest.{some_best}
+use Rattle.node_bounds.proofs.Worths.{worths_of}
 
 -- one row that isn't below 0, with its multiplier, is met
 one_met : (rows more : List Row) (whole : List ℕ) (den : ℕ) → length rows ≡ 1 → pos 0 ≤ℤ weighted (1 ∷ []) (rows ++ more) whole den → All (IsMetAt whole den) rows

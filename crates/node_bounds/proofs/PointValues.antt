@@ -20,7 +20,7 @@ use Rattle.dual_bound.specs.WeighingParts.{gains_by}
 use Rattle.node_bounds.proofs.RestRows.{AreWithin, IsMetAt, classes_met}
 use Rattle.node_bounds.proofs.RowValues.{AreCounted, AreNumbersOf, key_worth, kept_value, rows_kept}
 use Rattle.node_bounds.proofs.TakenGains.{AreGaining, gained}
-use Rattle.node_bounds.proofs.SideBySide.{one_time}
+use Rattle.dual_bound.proofs.SideBySide.{one_time}
 use Rattle.node_bounds.proofs.Worths.{AreWorths, IsCutOff}
 
 -- ---- the numbers of a point
@@ -76,7 +76,7 @@ all_numbers start xs ys are =
 
 -- ---- rows that are met
 
-all_front : {X : Type 0} (P : X → Type 0) (xs ys : List X) → All P (xs ++ ys) → All P xs
+pub all_front : {X : Type 0} (P : X → Type 0) (xs ys : List X) → All P (xs ++ ys) → All P xs
 all_front P [] ys all = λ k d lt. absurd (omega (arith, lt))
 all_front P (x ∷ xs) ys all = All-cons P x xs (All-head P x (xs ++ ys) all) (all_front P xs ys (All-tail P x (xs ++ ys) all))
 

@@ -17,7 +17,7 @@ use Rattle.goal_rows.specs.Programs.{class_row, class_rows_of, flow_weighings, r
 use Rattle.goal_rows.specs.declared.goals.Goal.TheVariants.{Suffix}
 use Rattle.node_bounds.proofs.ArcSums.{leaving_counts, through_counts}
 use Rattle.node_bounds.proofs.RowValues.{AreNumbers, counting_value}
-use Rattle.node_bounds.proofs.SideBySide.{times_none, times_ones}
+use Rattle.dual_bound.proofs.SideBySide.{times_none, times_ones}
 
 -- the row is at least 0 there
 abbrev pub IsMetAt : List ℕ → ℕ → Row → Type 0
@@ -64,7 +64,7 @@ within_from d [] xs each = tt
 within_from d (p ∷ ps) [] each = tt
 within_from d (p ∷ ps) (x ∷ xs) each = (each 0 (omega arith) (omega arith), within_from d ps xs (λ k lt also. each (suc k) (omega (arith, lt)) (omega (arith, also))))
 
-within_at : (d : ℕ) (ps : List (ℕ × ℕ)) (xs : List ℕ) (k : ℕ) → AreWithin d ps xs → k < length ps → k < length xs → get_or xs k 0 ≤ d * (get_or ps k (0, 0)).1
+pub within_at : (d : ℕ) (ps : List (ℕ × ℕ)) (xs : List ℕ) (k : ℕ) → AreWithin d ps xs → k < length ps → k < length xs → get_or xs k 0 ≤ d * (get_or ps k (0, 0)).1
 within_at d [] xs k within lt also = absurd (omega (arith, lt))
 within_at d (p ∷ ps) [] k within lt also = absurd (omega (arith, also))
 within_at d (p ∷ ps) (x ∷ xs) zero within lt also = within.0

@@ -18,7 +18,7 @@ use Rattle.goal_rows.specs.Suffixes.{those}
 use Rattle.goal_rows.specs.declared.parts.Ground.{Ground}
 use Rattle.dual_bound.specs.Weighing.{base_by, limit_start, of_limits, of_rows, times_all}
 use Rattle.dual_bound.proofs.Pairwise.{zip_none}
-use Rattle.node_bounds.proofs.SideBySide.{factors_swap, mixed, times_append, times_both, times_none, times_scaled, turned}
+use Rattle.dual_bound.proofs.SideBySide.{factors_swap, mixed, times_append, times_both, times_none, times_scaled, turned}
 
 -- ---- one row
 

@@ -1,5 +1,5 @@
 -- What replaced ballots and the arcs of new ones are worth, goal by goal: together they bring the gains by keys.
-use Rattle.std.proofs.Common.{◌≡◌, ◌⊎◌, ℕ, zero, suc, ◌+◌, ◌-◌, ◌*◌, ◌<◌, ◌≤◌, List, [], ◌∷◌, ◌++◌, length, map, replicate, refl, sym, ap, subst, ◌∙◌, inl, inr, arith, All}
+use Rattle.std.proofs.Common.{◌≡◌, ◌⊎◌, ℕ, zero, suc, ◌+◌, ◌-◌, ◌*◌, ◌≤◌, List, [], ◌∷◌, ◌++◌, length, map, replicate, refl, sym, ap, subst, ◌∙◌, inl, inr, arith, All}
 use Rattle.std.specs.Prelude.{ℤ, pos, ◌+ℤ◌, ◌-ℤ◌, ◌*ℤ◌, ◌≤ℤ◌, unsigned_abs, slice_index}
 use Rattle.std.specs.Int.{int_max}
 use Rattle.std.proofs.Math.IntN.{negsuc}
@@ -11,11 +11,9 @@ use Rattle.row_program.specs.declared.Feature.{Feature}
 use Rattle.row_program.specs.declared.Limit.{Limit}
 use Rattle.row_program.specs.declared.program.Row.{Row}
 use Rattle.signature_class.specs.declared.limits.TheConstants.{MOST_PLACES}
-use Rattle.sig_graph.specs.Bests.{IsBetter}
 use Rattle.sig_graph.specs.Flows.{IsFlow}
-use Rattle.sig_graph.specs.Paths.{IsBest, IsPath, arcs_of, path_sum, weight_at}
+use Rattle.sig_graph.specs.Paths.{IsBest, IsPath, arcs_of, path_sum}
 use Rattle.sig_graph.specs.Walks.{flow_of, uses_of}
-use Rattle.sig_graph.proofs.BestPaths.{IsBestVia, via_all, via_more, via_none}
 use Rattle.sig_graph.proofs.FlowSums.{flow_sum-le}
 use Rattle.sig_graph.proofs.PathFlows.{flow_sum-of, paths_are_flow}
 use Rattle.goal_rows.specs.Elections.{Election}
@@ -29,10 +27,11 @@ use Rattle.goal_rows.specs.declared.parts.Ground.{Ground}
 use Rattle.goal_rows.proofs.GroundSizes.{lone_small, suffix_few}
 use Rattle.dual_bound.specs.Weighing.{IsBestNew, all_arcs, cost_by, gain_by, gain_over, is_arc, limits_bring, of_limits, of_rows, over_weight, rows_bring, times_all}
 use Rattle.dual_bound.proofs.Pairwise.{zip_none}
-use Rattle.node_bounds.proofs.KeyWorths.{cover_key_worth, limits_by_arc, limits_by_key, pair_key_worth, suffix_arc_worth, suffix_key_worth}
+use Rattle.dual_bound.proofs.SuffixWorths.{suffix_arc_worth, suffix_key_worth}
+use Rattle.node_bounds.proofs.KeyWorths.{cover_key_worth, limits_by_arc, limits_by_key, pair_key_worth}
 use Rattle.node_bounds.proofs.RestRows.{IsMetAt, flow_meets_rows, rows_make_flow}
 use Rattle.node_bounds.proofs.RowValues.{AreCounted, AreNumbersOf, arc_worth, arcs_worth, key_worth, limit_key}
-use Rattle.node_bounds.proofs.SideBySide.{mixed, times_same}
+use Rattle.dual_bound.proofs.SideBySide.{mixed, times_same}
 
 -- a number cut off below 0
 abbrev pub IsCutOff : ℤ → ℕ → Type 0
@@ -261,41 +260,3 @@ worths_by e start (Cover x) limits ls best is features count greatest = cover_wo
 pub worths_of : (e : Election) (start : Ground) (limits : List Limit) (ls : List ℕ) (best : ℤ) → IsGroundIn e start → AreLimits e (node_of start limits)
     → AreCounted start limits ls → IsBestNew start limits ls best → AreWorths start limits ls best
 worths_of e start limits ls best is few count greatest = worths_by e start start.goal limits ls best is few.features count greatest
-
--- ---- there is a best new ballot
-
-better : (v w : ℤ) → (r : ℤ) × IsBetter v w r
-better v w = by (w -ℤ v) refl
-  where
-    by : (d : ℤ) → d ≡ w -ℤ v → (r : ℤ) × IsBetter v w r
-    by (pos zero) is = (v, inl (omega (arith, ints, is), refl))
-    by (pos (suc n)) is = (w, inr (omega (arith, ints, is), refl))
-    by (negsuc n) is = (v, inl (omega (arith, ints, is), refl))
-
--- the best of a place from those of the later ones
-best_via : (m : ℕ) (ws : List ℤ) (u n : ℕ) → u + 1 + n ≤ m + 1 → ((x : ℕ) → u < x → x ≤ m → (b : ℤ) × IsBest m ws x b) → (v : ℤ) × IsBestVia m ws u (u + 1 + n) v
-best_via m ws u zero within later = let e : u + 1 + zero ≡ u + 1 = omega arith in (pos 0, rw e (via_none m ws u))
-best_via m ws u (suc n) within later =
-    let old = best_via m ws u n (omega (arith, within)) later in
-    let next = later (u + 1 + n) (omega arith) (omega (arith, within)) in
-    let more = better old.0 (weight_at m ws u (u + 1 + n) +ℤ next.0) in
-    let e : u + 1 + suc n ≡ u + 1 + n + 1 = omega arith in
-    (more.0, rw e (via_more m ws u (u + 1 + n) old.0 next.0 more.0 (omega arith) (omega (arith, within)) old.1 next.1 more.1))
-
-best_from : (m : ℕ) (ws : List ℤ) (d x : ℕ) → x ≤ m → m ≤ x + d → (b : ℤ) × IsBest m ws x b
-best_from m ws zero x within late =
-    let e : m + 1 ≡ x + 1 = omega (arith, within, late) in
-    (pos 0, via_all m ws x (pos 0) (rw e (via_none m ws x)))
-best_from m ws (suc d) x within late =
-    let e : m + 1 ≡ x + 1 + (m - x) = omega (arith, within) in
-    let all = best_via m ws x (m - x) (omega (arith, within)) (λ y after le. best_from m ws d y le (omega (arith, after, late))) in
-    (all.0, via_all m ws x all.0 (subst (λ h. IsBestVia m ws x h all.0) (sym e) all.1))
-
-pub some_best : (start : Ground) (limits : List Limit) (ls : List ℕ) → (best : ℤ) × IsBestNew start limits ls best
-some_best start limits ls = by start.goal
-  where
-    by : (goal : Goal) → (best : ℤ) × IsBestNew (with_goal start goal) limits ls best
-    by Root = (pos 0, refl)
-    by (Suffix suffix) = best_from (length suffix) (all_arcs start limits ls (length suffix)) (length suffix) 0 (omega arith) (omega arith)
-    by (Pair g l) = (pos (slice_index (of_rows start ls) 0) *ℤ start.lone, refl)
-    by (Cover x) = (pos (add_up (λ l. l) (of_rows start ls)), refl)

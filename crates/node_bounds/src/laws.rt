@@ -1,12 +1,14 @@
 // Laws of cuts and ceilings.
-ghost use Rattle.std.specs.Prelude.{◌≡◌, ◌↔◌, ℕ, ◌+◌, ◌≤◌, ◌≤ℤ◌, ◌*ℤ◌, List, [], ◌∷◌, ℤ, pos, length};
+ghost use Rattle.std.specs.Prelude.{◌≡◌, ◌↔◌, ℕ, ◌+◌, ◌*◌, ◌≤◌, ◌≤ℤ◌, ◌*ℤ◌, List, [], ◌∷◌, ℤ, pos, length, map};
 ghost use Rattle.row_program.specs.Points.{IsLeastCost, IsPoint};
 ghost use Rattle.row_program.specs.declared.Limit.{Limit as ALimit};
 ghost use Rattle.row_program.specs.declared.program.Program.{Program as AProgram};
 ghost use Rattle.dual_theory.specs.Multipliers.{BoundsCost, RulesOut};
+ghost use Rattle.goal_rows.specs.Cells.{IsCell, cell_values};
 ghost use Rattle.goal_rows.specs.Elections.{Election, Node};
 ghost use Rattle.goal_rows.specs.Goals.{IsKid, rows_of};
 ghost use Rattle.goal_rows.specs.Nodes.{AreLimits, kept_of, node_of, with_limit, without_limits};
+ghost use Rattle.goal_rows.specs.Programs.{IsPointOf, point_cost_of};
 ghost use Rattle.goal_rows.specs.Races.{IsGroundIn};
 ghost use Rattle.goal_rows.specs.declared.goals.Goal.{Goal as AGoal};
 ghost use Rattle.goal_rows.specs.declared.goals.Goal.TheVariants.{Pair};
@@ -82,4 +84,26 @@ pub fn a_cut_at_the_ceiling_is_the_bound()
         IsGroundIn e start → AreLimits e (node_of start limits) → length ls ≡ length start.sums + length limits →
         IsCeiling e (node_of start limits) t → Cuts e (node_of start limits) ls t →
         IsBound e (node_of start limits) ls t }
+{}
+
+/// A cell has one point at most: the values that its limits leave its variables. Numbers over a denominator that meet
+/// the rows of its program are these values times the denominator, and then the values themselves meet the rows.
+pub fn a_cell_has_one_point()
+    ensures values { (e : Election) (start : AGround) (limits : List ALimit) (whole : List ℕ) (den : ℕ) →
+        IsGroundIn e start → IsCell start limits → IsPointOf start limits whole den →
+        whole ≡ map (λ value. value * den) (cell_values start limits) }
+    ensures met { (e : Election) (start : AGround) (limits : List ALimit) (whole : List ℕ) (den : ℕ) →
+        IsGroundIn e start → IsCell start limits → IsPointOf start limits whole den →
+        IsPointOf start limits (cell_values start limits) 1 }
+{}
+
+/// The ceiling of a cell is what its values cost, where these meet the rows of its program, and else one more than there
+/// are ballots.
+pub fn a_cells_ceiling()
+    ensures met { (e : Election) (start : AGround) (limits : List ALimit) → IsGroundIn e start → IsCell start limits →
+        IsPointOf start limits (cell_values start limits) 1 →
+        IsCeiling e (node_of start limits) (point_cost_of start (cell_values start limits)) }
+    ensures broken { (e : Election) (start : AGround) (limits : List ALimit) →
+        IsGroundIn e start → IsCell start limits → (IsPointOf start limits (cell_values start limits) 1 → ⊥) →
+        IsCeiling e (node_of start limits) (length e.poll.ballots + 1) }
 {}

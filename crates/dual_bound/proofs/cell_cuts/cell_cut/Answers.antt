@@ -10,8 +10,8 @@ use Rattle.goal_rows.specs.Nodes.{node_of}
 use Rattle.goal_rows.specs.Programs.{point_cost_of}
 use Rattle.dual_bound.specs.CellCuts.{is_broken}
 use Rattle.dual_bound.specs.CutTest.{AreMultipliers, IsBound}
+use Rattle.dual_bound.proofs.CellBeyond.{cell_beyond}
 use Rattle.dual_bound.proofs.CellCosts.{cell_cost}
-use Rattle.dual_bound.proofs.CellHolds.{cover_beyond}
 use Rattle.dual_bound.proofs.CellMultipliers.{broken_is, multipliers_are, multipliers_count, terms_within}
 use Rattle.dual_bound.proofs.CellVariables.{features_count, values_count}
 use Rattle.dual_bound.proofs.Sizes.{few_classes}
@@ -75,9 +75,9 @@ returns-clause-cost c point e is =
     subst (λ (ls : List ℕ). IsBound e (node_of start limits) ls (point_cost_of start (cell_values start limits))) (sym same) (cell_cost e start limits is (c.requires.limits e is) c.requires.cell are point)
 
 pub returns-clause-beyond : goal.returns-clause-beyond
-returns-clause-beyond c x covers never e is =
+returns-clause-beyond c never e is =
     let start = c.args.start.now in
     let limits = c.args.limits.now in
     let same = returns-clause-each c in
     let are = subst (λ (ls : List ℕ). AreMultipliers start limits ls) same (returns-clause-one_each c) in
-    subst (λ (ls : List ℕ). IsBound e (node_of start limits) ls (start.ballots + 1)) (sym same) (cover_beyond e start x limits is (c.requires.limits e is) c.requires.cell are covers never)
+    subst (λ (ls : List ℕ). IsBound e (node_of start limits) ls (start.ballots + 1)) (sym same) (cell_beyond e start limits is (c.requires.limits e is) c.requires.cell are never)

@@ -16,7 +16,7 @@ use Rattle.goal_rows.specs.KeyCounts.{is_held}
 use Rattle.goal_rows.proofs.Lists.{list_more}
 use Rattle.dual_bound.specs.Weighing.{places_by, row_places}
 use Rattle.dual_bound.proofs.PathArcs.{round_at}
-use Rattle.node_bounds.proofs.SideBySide.{AreAlike}
+use Rattle.dual_bound.proofs.SideBySide.{AreAlike}
 
 -- the places from 1 on whose bits stand in a key
 abbrev on_place : ℕ → ℕ → Bool
