@@ -7,3 +7,11 @@ pub mod WholeValues
 pub mod VariableEnds
 pub mod PointRanges
 pub mod BranchedLeaves
+pub mod SeedLimits
+pub mod MadeLeaves
+pub mod PairMeets
+pub mod PairLeaves
+pub mod CellNodes
+pub mod RootLeaf
+pub mod SolvedNodes
+pub mod SolvedLeaves

@@ -11,8 +11,17 @@ mod copies;
 mod halves;
 mod leaves;
 mod seeds;
+mod tools;
+
+mod branchings;
+mod copies;
+mod halves;
+mod leaves;
+mod seeds;
+mod tools;
 
 pub use branchings::{Branching, branching_of};
 pub use halves::seeds_by_branch;
-pub use leaves::Leaf;
+pub use leaves::{Leaf, first_leaf, new_leaf};
 pub use seeds::{Seed, seeds_by_cover};
+pub use tools::Tools;
