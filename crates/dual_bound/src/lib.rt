@@ -8,8 +8,8 @@
 //! of replacements meets the node. A node is any goal that is reached from the root, with limits on its features. What
 //! a new ballot brings at most is what the gainer alone does, or the candidate of a cover alone, or the best path of a
 //! suffix; what an old ballot costs is read from its key. A node whose limits leave each variable of its program one
-//! value is a cell: `is_cell` tells cells, and `cell_cut` gives their multipliers (`specs/CellCuts.antt`), whose bound is
-//! what the values cost where these break no row, and else one more than there are ballots. The crate stands on
+//! value is a cell: `is_cell` tells cells, and `cell_cut` gives their multipliers (`specs/CellCuts.antt`), whose bound
+//! is what the values cost where these break no row, and else one more than there are ballots. The crate stands on
 //! `goal_rows`, on `sig_graph` for paths, on `row_program` for limits, and on `bound_tree` for lists of multipliers.
 #![tactic(auto)]
 

@@ -97,8 +97,8 @@ pub fn a_cell_has_one_point()
         IsPointOf start limits (cell_values start limits) 1 }
 {}
 
-/// The ceiling of a cell is what its values cost, where these meet the rows of its program, and else one more than there
-/// are ballots.
+/// The ceiling of a cell is what its values cost, where these meet the rows of its program, and else one more than
+/// there are ballots.
 pub fn a_cells_ceiling()
     ensures met { (e : Election) (start : AGround) (limits : List ALimit) → IsGroundIn e start → IsCell start limits →
         IsPointOf start limits (cell_values start limits) 1 →
