@@ -8,3 +8,4 @@ pub mod CellNodes
 pub mod RootLeaf
 pub mod SolvedNodes
 pub mod SolvedLeaves
+pub mod CellLeaves
