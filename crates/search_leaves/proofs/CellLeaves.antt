@@ -1,5 +1,5 @@
 -- The leaf of a cell of a complete goal.
-use Rattle.std.proofs.Common.{◌≡◌, ℕ, ◌+◌, ◌*◌, ◌≤◌, ◌∙◌, List, Option, None, Some, length, refl, sym, ap, subst, inl, inr, arith}
+use Rattle.std.proofs.Common.{◌≡◌, ℕ, ◌+◌, ◌*◌, ◌≤◌, ◌∙◌, List, Option, None, Some, length, sym, ap, subst, inl, inr, arith}
 use Rattle.row_program.specs.declared.Limit.{Limit}
 use Rattle.row_program.specs.declared.program.Point.{Point}
 use Rattle.goal_rows.specs.Cells.{IsCell, cell_values}
@@ -15,9 +15,8 @@ use Rattle.node_bounds.proofs.CeilingCuts.{ground_is}
 use Rattle.node_bounds.proofs.CellPoints.{ceiling_broken, ceiling_met, cell_point_cost, cell_point_first}
 use Rattle.witness_build.specs.CellPoints.{IsCellPoint}
 use Rattle.search_theory.specs.Branchings.{IsLeastOf, IsSolid}
-use Rattle.search_theory.specs.Leaves.{IsKept}
 use Rattle.search_theory.specs.Trees.{top_of}
-use Rattle.search_leaves.specs.Kept.{IsSeed, node_in, values_of}
+use Rattle.search_leaves.specs.Kept.{node_in}
 use Rattle.search_leaves.specs.NewLeaves.{IsCellSeed, IsLeafOf, leaf_from}
 use Rattle.search_leaves.specs.declared.seeds.Seed.{Seed}
 use Rattle.search_leaves.proofs.CellNodes.{featured_other, no_cover}

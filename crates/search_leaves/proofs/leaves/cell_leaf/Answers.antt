@@ -1,4 +1,4 @@
-use Rattle.std.proofs.Common.{◌≡◌, subst, sym}
+use Rattle.std.proofs.Common.{subst, sym}
 use Rattle.search_leaves.specs.NewLeaves.{IsLeafOf}
 use Rattle.search_leaves.proofs.CellLeaves.{IsCutCell, cell_leaf, cell_read}
 use Rattle.search_leaves.proofs.SeedLimits.{limits_read}

@@ -1,4 +1,4 @@
-use Rattle.std.proofs.Common.{◌≡◌, ◌∙◌, Err, IfOk, Ok, Result, sym}
+use Rattle.std.proofs.Common.{◌∙◌, Err, IfOk, Ok, Result, sym}
 use Rattle.std.proofs.lemmas.Bool.{false≢true}
 use Rattle.goal_rows.specs.Elections.{Election}
 use Rattle.goal_rows.specs.Races.{election_of}
