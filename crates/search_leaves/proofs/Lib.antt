@@ -15,3 +15,4 @@ pub mod CellNodes
 pub mod RootLeaf
 pub mod SolvedNodes
 pub mod SolvedLeaves
+pub mod CellLeaves

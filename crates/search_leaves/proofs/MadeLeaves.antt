@@ -1,5 +1,5 @@
 -- What a leaf knows that is made of a seed.
-use Rattle.std.proofs.Common.{◌≡◌, ◌≢◌, ℕ, ◌<◌, ◌≤◌, ◌∙◌, List, Bool, Option, None, Some, true, false, length, refl, sym, ap, subst, inl, inr, arith}
+use Rattle.std.proofs.Common.{◌≡◌, ℕ, ◌<◌, ◌≤◌, ◌∙◌, List, Option, None, Some, true, false, length, refl, sym, subst, inl, inr, arith}
 use Rattle.std.proofs.lemmas.Bool.{false≢true}
 use Rattle.row_program.specs.declared.program.Point.{Point}
 use Rattle.goal_rows.specs.Elections.{Election}

@@ -1,8 +1,8 @@
 -- The leaf of a pair.
-use Rattle.std.proofs.Common.{◌≡◌, ℕ, ◌+◌, ◌<◌, ◌≤◌, ◌∙◌, List, [], ◌∷◌, All, Some, None, true, get_or, length, refl, sym, ap, subst, inl, inr, arith}
+use Rattle.std.proofs.Common.{◌≡◌, ℕ, ◌+◌, ◌≤◌, ◌∙◌, List, [], ◌∷◌, All, Some, None, true, length, refl, sym, ap, subst, inl, inr, arith}
 use Rattle.std.proofs.lemmas.Bool.{false≢true}
 use Rattle.row_program.specs.declared.Limit.{Limit}
-use Rattle.goal_rows.specs.Elections.{Election, Node}
+use Rattle.goal_rows.specs.Elections.{Election}
 use Rattle.std.specs.Prelude.{Contains}
 use Rattle.ballot_form.specs.Alterations.{IsAlteration, after}
 use Rattle.goal_rows.specs.Goals.{Holds, IsReached}
@@ -16,8 +16,7 @@ use Rattle.node_bounds.specs.Ceilings.{IsCeiling}
 use Rattle.node_bounds.proofs.PairBounds.{pair_ceiling}
 use Rattle.witness_build.specs.Witnesses.{IsPair}
 use Rattle.search_theory.specs.Branchings.{is_pair}
-use Rattle.search_theory.specs.Ends.{IsKnown, Problem}
-use Rattle.search_leaves.specs.Kept.{IsSeed, node_in}
+use Rattle.search_leaves.specs.Kept.{node_in}
 use Rattle.search_leaves.specs.NewLeaves.{IsLeafOf, IsPairSeed, leaf_from}
 use Rattle.search_leaves.specs.declared.seeds.Seed.{Seed}
 use Rattle.search_leaves.proofs.MadeLeaves.{IsReachedByPair, solid_leaf}

@@ -1,5 +1,5 @@
 -- The leaf with which a search begins.
-use Rattle.std.proofs.Common.{◌≡◌, ℕ, ◌*◌, ◌≤◌, ◌∙◌, List, [], ◌∷◌, None, All, length, refl, sym, ap, subst, inl, arith}
+use Rattle.std.proofs.Common.{◌≡◌, ℕ, ◌∙◌, List, [], None, refl, sym, ap, subst, inl, arith}
 use Rattle.std.proofs.lemmas.Bool.{false≢true}
 use Rattle.row_program.specs.declared.Limit.{Limit}
 use Rattle.goal_rows.specs.Elections.{Election, Node}
@@ -8,7 +8,7 @@ use Rattle.goal_rows.specs.declared.goals.Goal.{Goal}
 use Rattle.goal_rows.specs.declared.goals.Goal.TheVariants.{Root}
 use Rattle.goal_rows.specs.declared.parts.Ground.{Ground}
 use Rattle.dual_bound.proofs.Exact.{root_bound}
-use Rattle.node_bounds.specs.Ceilings.{IsAffordable, IsCeiling, IsNodePoint, ground_at}
+use Rattle.node_bounds.specs.Ceilings.{IsCeiling, IsNodePoint, ground_at}
 use Rattle.node_bounds.proofs.Inheritance.{no_limits_are}
 use Rattle.search_theory.specs.Ends.{Problem}
 use Rattle.search_theory.specs.Leaves.{IsLeaf, Leaf}

@@ -1,5 +1,5 @@
 -- The limits, rows and classes of a seed.
-use Rattle.std.proofs.Common.{◌≡◌, ℕ, ◌+◌, ◌<◌, ◌≤◌, ◌^◌, ◌∙◌, List, get_or, length, refl, subst, sym, arith}
+use Rattle.std.proofs.Common.{◌≡◌, ℕ, ◌+◌, ◌<◌, ◌≤◌, ◌^◌, List, get_or, length, refl, subst, sym, arith}
 use Rattle.row_program.specs.declared.Feature.{Feature}
 use Rattle.row_program.specs.declared.Feature.TheVariants.{Arc, From}
 use Rattle.row_program.specs.declared.Limit.{Limit}

@@ -1,5 +1,5 @@
 -- The leaf of a node whose program the method is given.
-use Rattle.std.proofs.Common.{◌≡◌, ◌≢◌, ℕ, ◌+◌, ◌<◌, ◌≤◌, ◌∙◌, List, Bool, Option, None, Some, true, false, cond, length, refl, sym, ap, subst, inl, inr, arith}
+use Rattle.std.proofs.Common.{◌≡◌, ℕ, ◌+◌, ◌∙◌, List, Bool, Option, None, Some, true, false, cond, length, sym, ap, subst, inl, inr}
 use Rattle.std.proofs.lemmas.Bool.{false≢true}
 use Rattle.exact_num.specs.declared.ratio.Ratio.{Ratio}
 use Rattle.row_program.specs.Method.{IsWide}
@@ -8,14 +8,12 @@ use Rattle.row_program.specs.declared.program.Program.{Program}
 use Rattle.lex_dual.specs.declared.solved.Solved.{Solved}
 use Rattle.lex_dual.specs.declared.solved.Solved.TheVariants.{Best, Never}
 use Rattle.goal_rows.specs.Elections.{Election, Node}
-use Rattle.goal_rows.specs.Nodes.{number_count}
-use Rattle.goal_rows.specs.declared.goals.Goal.TheVariants.{Root}
 use Rattle.dual_bound.specs.CutTest.{IsBound}
 use Rattle.node_bounds.specs.Ceilings.{IsCeiling, IsProgramOf}
 use Rattle.search_theory.specs.Branchings.{IsLeastOf, IsSolid, IsSolvable, is_pair}
 use Rattle.search_theory.specs.Leaves.{IsKept}
 use Rattle.search_theory.specs.Spots.{has_cover}
-use Rattle.search_leaves.specs.Kept.{IsSeed, node_in, values_of}
+use Rattle.search_leaves.specs.Kept.{node_in, values_of}
 use Rattle.search_leaves.specs.NewLeaves.{IsAnswer, IsLeafOf, IsOpenSeed, leaf_from}
 use Rattle.search_leaves.specs.declared.leaves.Leaf.{Leaf as KeptLeaf}
 use Rattle.search_leaves.specs.declared.seeds.Seed.{Seed}

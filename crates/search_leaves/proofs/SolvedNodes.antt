@@ -1,5 +1,5 @@
 -- What the method's answer to a node's program says of the node.
-use Rattle.std.proofs.Common.{◌≡◌, ℕ, zero, suc, ◌+◌, ◌*◌, ◌/◌, ◌%◌, ◌<◌, ◌≤◌, ◌∙◌, List, All, min, length, refl, sym, ap, subst, inl, inr, arith}
+use Rattle.std.proofs.Common.{◌≡◌, ℕ, ◌+◌, ◌*◌, ◌/◌, ◌%◌, ◌≤◌, ◌∙◌, List, All, min, length, sym, ap, subst, inl, inr, arith}
 use Rattle.std.specs.Prelude.{ℤ, pos, ◌*ℤ◌, ◌<ℤ◌, ◌≤ℤ◌}
 use Rattle.std.proofs.Math.IntN.{negsuc}
 use Rattle.std.proofs.Math.Nat.{mul-le-mul_right}
@@ -15,16 +15,15 @@ use Rattle.row_program.specs.declared.program.Program.{Program}
 use Rattle.row_program.specs.declared.program.Row.{Row}
 use Rattle.dual_theory.specs.Multipliers.{BoundsCost, RulesOut}
 use Rattle.lex_dual.specs.Answers.{HasNoPoint}
-use Rattle.goal_rows.specs.Elections.{Election, Node}
+use Rattle.goal_rows.specs.Elections.{Election}
 use Rattle.goal_rows.specs.Nodes.{AreLimits, node_of}
 use Rattle.goal_rows.specs.Programs.{IsPointOf, arcs_under, costs_of, program_rows}
 use Rattle.goal_rows.specs.Races.{IsGroundIn}
-use Rattle.goal_rows.specs.declared.goals.Goal.{Goal}
 use Rattle.goal_rows.specs.declared.parts.Ground.{Ground}
 use Rattle.dual_bound.proofs.Sizes.{few_classes}
 use Rattle.dual_bound.proofs.Sound.{one_bound}
 use Rattle.dual_bound.specs.CutTest.{IsBound}
-use Rattle.node_bounds.specs.Ceilings.{IsCeiling, IsNodePoint, IsProgramOf, ground_at}
+use Rattle.node_bounds.specs.Ceilings.{IsCeiling, IsProgramOf, ground_at}
 use Rattle.node_bounds.proofs.CeilingCuts.{best_ceiling, best_cuts, ground_is, never_ceiling, never_cuts}
 use Rattle.node_bounds.proofs.CeilingSizes.{ceiling_bound}
 use Rattle.search_theory.specs.Branchings.{IsLeastOf, IsSolvable, Values}

@@ -1,4 +1,4 @@
-use Rattle.std.proofs.Common.{◌≡◌, ◌∙◌, ◌+◌, length, ap, subst, sym, arith}
+use Rattle.std.proofs.Common.{◌≡◌, ◌∙◌, ◌+◌, length, ap, subst, sym}
 use Rattle.lex_dual.specs.Answers.{multipliers_in}
 use Rattle.search_leaves.specs.NewLeaves.{IsLeafOf}
 use Rattle.search_leaves.proofs.SolvedLeaves.{best_leaf, never_leaf}

@@ -1,4 +1,4 @@
-use Rattle.std.proofs.Common.{◌≤◌, arith}
+use Rattle.std.proofs.Common.{arith}
 use Rattle.search_leaves.proofs.SeedLimits.{few_enough, limits_read}
 use Rattle.search_leaves.proofs.leaves.leaf_with.Goals as goal
 

@@ -1,4 +1,4 @@
-use Rattle.std.proofs.Common.{◌≡◌, ◌∷◌, ◌++◌, [], ◌∙◌, None, ap, subst, sym}
+use Rattle.std.proofs.Common.{◌≡◌, ◌∷◌, ◌++◌, [], ◌∙◌, ap, subst, sym}
 use Rattle.search_leaves.specs.NewLeaves.{IsLeafOf}
 use Rattle.search_leaves.proofs.PairLeaves.{one_for_pair, pair_leaf}
 use Rattle.search_leaves.proofs.leaves.pair_leaf.Goals as goal

@@ -1,4 +1,3 @@
-use Rattle.std.proofs.Common.{◌≡◌}
 use Rattle.search_leaves.proofs.SeedLimits.{few_enough, limits_read}
 use Rattle.search_leaves.proofs.SolvedLeaves.{wide_leaf}
 use Rattle.search_leaves.proofs.SolvedNodes.{made_of}
