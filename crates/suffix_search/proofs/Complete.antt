@@ -21,7 +21,7 @@ no_longer e suffix none = by (nat_lt (length suffix) e.poll.c) refl none
   where
     by : (b : Bool) → nat_lt (length suffix) e.poll.c ≡ b → is_some (cond b (Some (longer_suffixes e.poll.c suffix)) None) ≡ false → e.poll.c ≤ length suffix
     by true is none = absurd (false≢true (sym none))
-    by false is none = omega (arith, is)
+    by false is none = grind (arith, nat_tests, is)
 
 pub complete_is : (e : Election) (goal : Goal) → IsElection e → IsReached e goal → has_cover e goal ≡ false → IsComplete e goal
 complete_is e Root election reached none = absurd (false≢true (sym none))

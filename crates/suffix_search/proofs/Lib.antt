@@ -6,3 +6,4 @@ pub mod Kids
 pub mod Complete
 pub mod NotRoot
 pub mod Steps
+pub mod Starts

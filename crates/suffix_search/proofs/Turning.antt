@@ -12,9 +12,9 @@ use Rattle.search_theory.specs.Branchings.{IsWhole, Values, is_pair}
 use Rattle.search_theory.specs.Ends.{AtPoint, EndsAtPoint, IsEnd, IsKnown, Nothing, Problem, cuts_in}
 use Rattle.search_theory.specs.Laws.{AreLaws}
 use Rattle.search_theory.specs.Leaves.{IsFirstLeaf, IsHeld, IsUnderWay, Leaf, lowest}
-use Rattle.search_theory.specs.Spots.{cover_list, has_cover}
+use Rattle.search_theory.specs.Spots.{Hung}
 use Rattle.search_theory.specs.Trees.{top_of}
-use Rattle.search_theory.proofs.Ended.{Goes, end_at_point, end_budget, end_depth, end_met, end_nothing, first_cut, goes_on, kids_of}
+use Rattle.search_theory.proofs.Ended.{Goes, end_at_point, end_budget, end_depth, end_met, end_nothing, first_cut, goes_on, same_first}
 use Rattle.search_theory.proofs.Facts.{laws_of}
 use Rattle.search_theory.proofs.Turns.{lowest-first}
 use Rattle.search_leaves.specs.Kept.{leaf_of, node_at, values_of}
@@ -99,9 +99,10 @@ module _ (p : Problem) (tree : Plain) (kept : List KeptLeaf) (election : IsElect
       module _ (unmet : p.upper ≡ Some leaf.bound → ⊥) where
         pub stops_at_point : (q : Values) → values_of leaf.point ≡ Some q → IsWhole q → IsTurn p tree kept (turns.Stop leaf.bound (stops.AtPoint place))
         stops_at_point q is whole =
+            let end = end_at_point p (laws_of p election known) tree (leaves_of kept) place (leaf_of leaf) q running.under_way first low unmet is whole in
             let c = first_cut p place (cuts_in p.election tree) (leaves_of kept) (leaf_of leaf) running.under_way.cuts first in
-            let end : EndsAtPoint p tree leaf.bound q = end_at_point p (laws_of p election known) tree (leaves_of kept) place (leaf_of leaf) q running.under_way first low unmet is whole in
-            (lowest_is, record { leaf = leaf; within = least.within; stands = least.stands; q = q; point = is; at = end; node = c.1.node })
+            let same = (same_first p (laws_of p election known) leaf.bound leaf.bound (cuts_in p.election tree) end.first c.0 end.is_first c.2).1 in
+            (lowest_is, record { leaf = leaf; within = least.within; stands = least.stands; q = q; point = is; at = end; node = ap (λ (h : Hung). h.spot.node) same ∙ c.1.node })
 
         module _ (part : (q : Values) → values_of leaf.point ≡ Some q → IsWhole q → ⊥) where
           goes : Goes p tree (leaf_of leaf)

@@ -85,7 +85,7 @@ pub record IsPast (i : ℕ) (kids rest : Kids) (nodes cuts : ℕ) : Type 0 where
   pub number : cut_number_in i kids ≡ nodes + cut_number_in (i - cuts) rest
 
 pub at_start : (i : ℕ) (kids : Kids) → IsPast i kids kids 0 0
-at_start i kids = record { size = omega arith; cut = omega arith; before = omega arith; number = omega arith }
+at_start i kids = let none : i - 0 ≡ i = omega arith in let same = ap (λ j. cut_number_in j kids) none in record { size = omega arith; cut = omega arith; before = omega arith; number = omega (arith, same) }
 
 less_both : (i a b : ℕ) → i - a - b ≡ i - (a + b)
 less_both i a b = omega arith
@@ -112,16 +112,41 @@ next i kids kid rest nodes cuts is = record {
 }
 
 -- the kids from a place on
-pub from : List Tree → ℕ → Kids
+abbrev pub from : List Tree → ℕ → Kids
 from kids j = kids_of (map plain_of (drop j kids))
 
-pub from_next : (kids : List Tree) (j : ℕ) (kid : Tree) → j < length kids → kid ≡ get_or kids j kid → from kids j ≡ More (plain_of kid) (from kids (j + 1))
+from_next : (kids : List Tree) (j : ℕ) (kid : Tree) → j < length kids → kid ≡ get_or kids j kid → from kids j ≡ More (plain_of kid) (from kids (suc j))
 from_next [] j kid lt is = absurd (omega (arith, lt))
-from_next (k ∷ ks) zero kid lt is = rw is refl
+from_next (k ∷ ks) zero kid lt is = ap (λ t. More (plain_of t) (kids_of (map plain_of ks))) (sym is)
 from_next (k ∷ ks) (suc j) kid lt is = from_next ks j kid (omega (arith, lt)) is
 
-pub from_end : (kids : List Tree) (j : ℕ) → length kids ≤ j → from kids j ≡ None
+from_end : (kids : List Tree) (j : ℕ) → length kids ≤ j → from kids j ≡ None
 from_end [] zero le = refl
 from_end [] (suc j) le = refl
 from_end (k ∷ ks) zero le = absurd (omega (arith, le))
 from_end (k ∷ ks) (suc j) le = from_end ks j (omega (arith, le))
+
+-- the kid at a place
+pub next_kid : (i : ℕ) (kids : List Tree) (j after : ℕ) (kid : Tree) (nodes cuts : ℕ) → j < length kids → after ≡ j + 1 → kid ≡ get_or kids j kid → IsPast i (kids_of (map plain_of kids)) (from kids j) nodes cuts
+    → IsNext i (kids_of (map plain_of kids)) (plain_of kid) (from kids after) nodes cuts
+next_kid i kids j after kid nodes cuts lt after_is is past =
+    let later : suc j ≡ after = omega (arith, after_is) in
+    subst (λ k. IsNext i (kids_of (map plain_of kids)) (plain_of kid) (from kids k) nodes cuts) later
+    (next i (kids_of (map plain_of kids)) (plain_of kid) (from kids (suc j)) nodes cuts (subst (λ rest. IsPast i (kids_of (map plain_of kids)) rest nodes cuts) (from_next kids j kid lt is) past))
+
+-- all were walked past
+pub record IsAllPast (i : ℕ) (kids : Kids) (nodes cuts : ℕ) : Type 0 where
+  pub all_nodes : nodes ≡ size_all kids
+  pub all_cuts : cuts ≡ cut_count_all kids
+  pub before : cuts ≤ i
+
+pub all_past : (i : ℕ) (kids : List Tree) (j nodes cuts : ℕ) → length kids ≤ j → IsPast i (kids_of (map plain_of kids)) (from kids j) nodes cuts → IsAllPast i (kids_of (map plain_of kids)) nodes cuts
+all_past i kids j nodes cuts le past =
+    let none = from_end kids j le in
+    let sizes = ap size_all none in
+    let counts = ap cut_count_all none in
+    record {
+      all_nodes = omega (arith, past.size, sizes);
+      all_cuts = omega (arith, past.cut, counts);
+      before = past.before;
+    }

@@ -1,5 +1,5 @@
 // The node of a cut.
-ghost use Rattle.std.specs.Prelude.{◌≡◌, ◌<◌, ◌≤◌, ◌+◌, ◌-◌, ◌↔◌, IfErr, IfOk, IsOk, map};
+ghost use Rattle.std.specs.Prelude.{◌≡◌, ◌<◌, ◌≤◌, ◌↔◌, IfErr, IfOk, IsOk, map};
 ghost use Rattle.bound_tree.specs.Nodes.{cut_count, cut_count_all, size, size_all};
 ghost use Rattle.bound_tree.specs.Plain.{kids_of, plain_of};
 ghost use Rattle.bound_tree.specs.declared.bound.TheConstants.{MOST_NODES};
@@ -49,30 +49,15 @@ fn walk(tree: &Tree, i: u32) -> Result<u32, Passed>
         },
         Tree::Branch(_, _, low, high) => match walk(low.get(), i) {
             Ok(number) => Ok(number + 1),
-            Err(passed) => walk_behind(high.get(), passed, i),
+            Err(passed) => match walk(high.get(), i - passed.cuts) {
+                Ok(number) => Ok(1 + passed.nodes + number),
+                Err(more) => Err(Passed {
+                    nodes: 1 + passed.nodes + more.nodes,
+                    cuts: passed.cuts + more.cuts,
+                }),
+            },
         },
         Tree::Cut(_) => walk_cut(i),
-    }
-}
-
-/// The same of a branch whose low half was walked past, by its high half.
-#[cycle(walk)]
-fn walk_behind(high: &Tree, passed: Passed, i: u32) -> Result<u32, Passed>
-    requires few { 1 + passed.nodes + size (plain_of high.now) ≤ MOST_NODES }
-    requires cuts { passed.cuts ≤ i }
-    requires nodes { passed.cuts ≤ passed.nodes }
-    ensures found { IfOk result (λ number. number ≡ 1 + passed.nodes + number_of (i - passed.cuts) (plain_of high.now)) }
-    ensures within { IfOk result (λ number. number < 1 + passed.nodes + size (plain_of high.now)) }
-    ensures nodes { IfErr result (λ all. all.nodes ≡ 1 + passed.nodes + size (plain_of high.now)) }
-    ensures cuts { IfErr result (λ all. all.cuts ≡ passed.cuts + cut_count (plain_of high.now)) }
-    ensures when { IsOk result ↔ (i < passed.cuts + cut_count (plain_of high.now)) }
-{
-    match walk(high, i - passed.cuts) {
-        Ok(number) => Ok(1 + passed.nodes + number),
-        Err(more) => Err(Passed {
-            nodes: 1 + passed.nodes + more.nodes,
-            cuts: passed.cuts + more.cuts,
-        }),
     }
 }
 
