@@ -7,3 +7,4 @@ pub mod Complete
 pub mod NotRoot
 pub mod Steps
 pub mod Starts
+pub mod WholePoints

@@ -70,6 +70,7 @@ pub(crate) fn decide(
 }
 
 /// The place of the first leaf with the least bound.
+#[tactic(auto, using(crate::proofs::Turning::bound_is))]
 fn first_least(leaves: &[Leaf]) -> usize
     requires some { 0 < length leaves.now }
     ensures within { result < length leaves.now }
