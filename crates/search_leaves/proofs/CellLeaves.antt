@@ -1,5 +1,6 @@
 -- The leaf of a cell of a complete goal.
 use Rattle.std.proofs.Common.{◌≡◌, ℕ, ◌+◌, ◌*◌, ◌≤◌, ◌∙◌, List, Option, None, Some, length, sym, ap, subst, inl, inr, arith}
+use Rattle.std.proofs.lemmas.Bool.{false≢true}
 use Rattle.row_program.specs.declared.Limit.{Limit}
 use Rattle.row_program.specs.declared.program.Point.{Point}
 use Rattle.goal_rows.specs.Cells.{IsCell, cell_values}
@@ -9,6 +10,7 @@ use Rattle.goal_rows.specs.Programs.{IsPointOf, point_cost_of}
 use Rattle.goal_rows.specs.Races.{IsGroundIn}
 use Rattle.goal_rows.specs.declared.parts.Ground.{Ground}
 use Rattle.dual_bound.proofs.Sound.{one_bound}
+use Rattle.dual_bound.specs.CellCuts.{cell_multipliers}
 use Rattle.dual_bound.specs.CutTest.{IsBound}
 use Rattle.node_bounds.specs.Ceilings.{IsCeiling, ground_at}
 use Rattle.node_bounds.proofs.CeilingCuts.{ground_is}
@@ -17,7 +19,7 @@ use Rattle.witness_build.specs.CellPoints.{IsCellPoint}
 use Rattle.search_theory.specs.Branchings.{IsLeastOf, IsSolid}
 use Rattle.search_theory.specs.Trees.{top_of}
 use Rattle.search_leaves.specs.Kept.{node_in}
-use Rattle.search_leaves.specs.NewLeaves.{IsCellSeed, IsLeafOf, leaf_from}
+use Rattle.search_leaves.specs.NewLeaves.{AreOwn, IsCellSeed, IsLeafOf, leaf_from}
 use Rattle.search_leaves.specs.declared.seeds.Seed.{Seed}
 use Rattle.search_leaves.proofs.CellNodes.{featured_other, no_cover}
 use Rattle.search_leaves.proofs.MadeLeaves.{no_pair, solid_leaf}
@@ -37,8 +39,9 @@ cell_least e start limits is cell met =
       lowest = λ whole den p values_are. p.positive;
     }
 
--- the multipliers cut the cell to what its values cost, where these meet its rows, and else beyond all ballots
+-- the multipliers are the cell's, and cut it to what its values cost, where these meet its rows, and else beyond all ballots
 pub record IsCutCell (e : Election) (start : Ground) (limits : List Limit) (ls : List ℕ) : Type 0 where
+  pub each : ls ≡ cell_multipliers start limits
   pub cost : IsPointOf start limits (cell_values start limits) 1 → IsBound e (node_of start limits) ls (point_cost_of start (cell_values start limits))
   pub beyond : (IsPointOf start limits (cell_values start limits) 1 → ⊥) → IsBound e (node_of start limits) ls (start.ballots + 1)
 
@@ -50,6 +53,14 @@ module _ (e : Election) (seed : Seed) (ls : List ℕ) (b : ℕ) (is : IsCellSeed
   solid : IsSolid e (node_in seed)
   solid = inr (inr (inl is.cell))
 
+  own_multipliers : AreOwn e seed ls
+  own_multipliers = record {
+    pair = λ pair. absurd (false≢true (sym (featured_other seed.start.goal cell.featured) ∙ pair));
+    cell = λ _. cut.each;
+    solved = λ other no_cell solvable. absurd (no_cell is.cell);
+    inherited = λ loose. absurd (loose solid);
+  }
+
   met_leaf : (point : Point) → IsCellPoint seed.start seed.limits.items (Some point) → IsLeafOf e seed (leaf_from seed ls b (Some point))
   met_leaf point (whole, den, met) =
       let start = seed.start in
@@ -60,7 +71,7 @@ module _ (e : Election) (seed : Seed) (ls : List ℕ) (b : ℕ) (is : IsCellSeed
       let least = subst (λ d. IsLeastOf e (node_in seed) (record { whole = point.whole; den = d })) (sym den)
       (subst (λ w. IsLeastOf e (node_in seed) (record { whole = w; den = 1 })) (sym whole) (cell_least e start limits own.ground cell met)) in
       let other = featured_other start.goal cell.featured in
-      solid_leaf e seed ls b (Some point) own (record { count = as_many e seed ls own one_each; bound = bound; pair = no_pair e seed b other })
+      solid_leaf e seed ls b (Some point) own (record { count = as_many e seed ls own one_each; bound = bound; own = own_multipliers; pair = no_pair e seed b other })
       (no_cover e start.goal is.cell.complete, other, solid, least) solid ceiling
 
   broken_leaf : IsCellPoint seed.start seed.limits.items None → IsLeafOf e seed (leaf_from seed ls b None)
@@ -72,7 +83,7 @@ module _ (e : Election) (seed : Seed) (ls : List ℕ) (b : ℕ) (is : IsCellSeed
       let same = one_bound e (node_in seed) ls (top_of e) b beyond bound in
       let top = ceiling_broken e start seed.limits.items own.ground cell never in
       let other = featured_other start.goal cell.featured in
-      solid_leaf e seed ls b None own (record { count = as_many e seed ls own one_each; bound = bound; pair = no_pair e seed b other }) (inr (inr (inr top))) solid
+      solid_leaf e seed ls b None own (record { count = as_many e seed ls own one_each; bound = bound; own = own_multipliers; pair = no_pair e seed b other }) (inr (inr (inr top))) solid
       (subst (IsCeiling e (node_in seed)) same top)
 
   by_point : (point : Option Point) → IsCellPoint seed.start seed.limits.items point → IsLeafOf e seed (leaf_from seed ls b point)

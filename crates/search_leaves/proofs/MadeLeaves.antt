@@ -12,7 +12,7 @@ use Rattle.search_theory.specs.Ends.{IsKnown, Problem}
 use Rattle.search_theory.specs.Leaves.{HasRanges, IsCutTo, IsKept, IsLeaf}
 use Rattle.search_theory.specs.Trees.{top_of}
 use Rattle.search_leaves.specs.Kept.{IsSeed, leaf_of, node_in, values_of}
-use Rattle.search_leaves.specs.NewLeaves.{IsLeafOf, leaf_from}
+use Rattle.search_leaves.specs.NewLeaves.{AreOwn, IsLeafOf, leaf_from}
 use Rattle.search_leaves.specs.declared.seeds.Seed.{Seed}
 
 -- where the goal is a pair and the bound is within reach, so many are known to turn the outcome
@@ -20,10 +20,11 @@ abbrev pub IsReachedByPair : Election → Seed → ℕ → Type 0
 IsReachedByPair e seed b = (p : Problem) → p.election ≡ e → IsKnown p → is_pair seed.start.goal ≡ true → b < top_of e →
     (u : ℕ) × (p.upper ≡ Some u) × (u ≤ b)
 
--- the multipliers are one for each row and limit, and have this bound; the point is kept rightly
+-- the multipliers are the node's, one for each row and limit, and have this bound
 pub record AreFound (e : Election) (seed : Seed) (ls : List ℕ) (b : ℕ) : Type 0 where
   pub count : length ls ≡ number_count e (node_in seed)
   pub bound : IsBound e (node_in seed) ls b
+  pub own : AreOwn e seed ls
   pub pair : IsReachedByPair e seed b
 
 own_leaf : (e : Election) (seed : Seed) (ls : List ℕ) (b : ℕ) (point : Option Point) → IsSeed e seed → AreFound e seed ls b → IsKept e (node_in seed) (values_of point)
@@ -45,6 +46,7 @@ made_leaf e seed ls b point is found kept cut = record {
   ground = refl;
   limits = refl;
   depth = refl;
+  multipliers = found.own;
   own = own_leaf e seed ls b point is found kept;
   cut = cut;
 }
@@ -62,4 +64,10 @@ no_pair e seed b other p same known pair within = absurd (false≢true (sym othe
 pub inheriting_leaf : (e : Election) (seed : Seed) → IsSeed e seed → (IsSolid e (node_in seed) → ⊥) → IsLeafOf e seed (leaf_from seed seed.inherited seed.bound None)
 inheriting_leaf e seed is loose =
     let pair : IsReachedByPair e seed seed.bound = λ p same known pair within. absurd (loose (inr (inl pair))) in
-    made_leaf e seed seed.inherited seed.bound None is (record { count = is.count; bound = is.bound; pair = pair }) (inr (inr (inl loose))) (inr (loose, refl))
+    let own : AreOwn e seed seed.inherited = record {
+      pair = λ pair. absurd (loose (inr (inl pair)));
+      cell = λ cell. absurd (loose (inr (inr (inl cell))));
+      solved = λ other no_cell solvable. absurd (loose (inr (inr (inr solvable))));
+      inherited = λ _. refl;
+    } in
+    made_leaf e seed seed.inherited seed.bound None is (record { count = is.count; bound = is.bound; own = own; pair = pair }) (inr (inr (inl loose))) (inr (loose, refl))

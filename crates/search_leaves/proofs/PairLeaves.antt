@@ -17,8 +17,9 @@ use Rattle.node_bounds.proofs.PairBounds.{pair_ceiling}
 use Rattle.witness_build.specs.Witnesses.{IsPair}
 use Rattle.search_theory.specs.Branchings.{is_pair}
 use Rattle.search_leaves.specs.Kept.{node_in}
-use Rattle.search_leaves.specs.NewLeaves.{IsLeafOf, IsPairSeed, leaf_from}
+use Rattle.search_leaves.specs.NewLeaves.{AreOwn, IsLeafOf, IsPairSeed, leaf_from}
 use Rattle.search_leaves.specs.declared.seeds.Seed.{Seed}
+use Rattle.search_leaves.proofs.CellNodes.{featured_other}
 use Rattle.search_leaves.proofs.MadeLeaves.{IsReachedByPair, solid_leaf}
 use Rattle.search_leaves.proofs.PairMeets.{bound_is_met}
 use Rattle.search_leaves.proofs.SeedLimits.{as_many}
@@ -79,4 +80,10 @@ pair_leaf e seed ls b is one bound =
     let free : IsBound e (node_of seed.start []) (1 ∷ []) b = subst (λ (limits : List Limit). IsBound e (node_of seed.start limits) (1 ∷ []) b) bare.limits own in
     let ceiling : IsCeiling e (node_in seed) b = subst (λ (limits : List Limit). IsCeiling e (node_of seed.start limits) b) (sym bare.limits) (pair_ceiling e seed.start bare.g bare.l b is.own.ground bare.goal free) in
     let count = as_many e seed ls is.own (one_for_pair seed ls (e, is) one) in
-    solid_leaf e seed ls b None is.own (record { count = count; bound = bound; pair = reached_by e seed b is own }) (inr (inl is.pair)) (inr (inl is.pair)) ceiling
+    let multipliers : AreOwn e seed ls = record {
+      pair = λ _. one;
+      cell = λ cell. absurd (false≢true (sym (featured_other seed.start.goal cell.cell.featured) ∙ is.pair));
+      solved = λ other no_cell solvable. absurd (false≢true (sym other ∙ is.pair));
+      inherited = λ loose. absurd (loose (inr (inl is.pair)));
+    } in
+    solid_leaf e seed ls b None is.own (record { count = count; bound = bound; own = multipliers; pair = reached_by e seed b is own }) (inr (inl is.pair)) (inr (inl is.pair)) ceiling

@@ -14,7 +14,7 @@ use Rattle.search_theory.specs.Branchings.{IsLeastOf, IsSolid, IsSolvable, is_pa
 use Rattle.search_theory.specs.Leaves.{IsKept}
 use Rattle.search_theory.specs.Spots.{has_cover}
 use Rattle.search_leaves.specs.Kept.{node_in, values_of}
-use Rattle.search_leaves.specs.NewLeaves.{IsAnswer, IsLeafOf, IsOpenSeed, leaf_from}
+use Rattle.search_leaves.specs.NewLeaves.{AreOwn, AreRead, IsAnswer, IsLeafOf, IsOpenSeed, leaf_from}
 use Rattle.search_leaves.specs.declared.leaves.Leaf.{Leaf as KeptLeaf}
 use Rattle.search_leaves.specs.declared.seeds.Seed.{Seed}
 use Rattle.search_leaves.proofs.MadeLeaves.{inheriting_leaf, no_pair, solid_leaf}
@@ -38,6 +38,16 @@ wide_leaf e covered seed program leaf is made wide made_leaf =
 
 -- ---- it is solved
 
+-- its multipliers are those of its program
+solved_own : (e : Election) (covered : Bool) (seed : Seed) (program : Program) (ls : List ℕ) → IsOpenSeed e covered seed → IsProgramOf seed.start seed.limits.items program → AreRead program ls
+    → IsSolid e (node_in seed) → AreOwn e seed ls
+solved_own e covered seed program ls is made read solid = record {
+  pair = λ pair. absurd (false≢true (sym is.other ∙ pair));
+  cell = λ cell. absurd (is.no_cell cell);
+  solved = λ other no_cell solvable. (program, made, read);
+  inherited = λ loose. absurd (loose solid);
+}
+
 kept_unless : (e : Election) (seed : Seed) (covered : Bool) (point : Point) (kept : Option Point) → kept ≡ cond covered None (Some point) → has_cover e seed.start.goal ≡ covered
     → is_pair seed.start.goal ≡ false → IsSolid e (node_in seed) → IsLeastOf e (node_in seed) (record { whole = point.whole; den = point.den }) → IsKept e (node_in seed) (values_of kept)
 kept_unless e seed true point kept is cover other solid least = subst (λ k. IsKept e (node_in seed) (values_of k)) (sym is) (inl cover)
@@ -55,7 +65,8 @@ best_leaf e covered seed solved value ls point kept b is answer solved_is kept_i
     let solid : IsSolid e (node_in seed) = inr (inr (inr (narrow_is_solved e start limits best.program own.ground best.is best.narrow))) in
     let ceiling = best_is_ceiling e start limits best.program ls value.num value.den b own.ground few best.is best.least_cost best.cost_shown best.each_row bound in
     let least = least_is_least e start limits best.program (record { whole = point.whole; den = point.den }) own.ground best.is best.least_point in
-    solid_leaf e seed ls b kept own (record { count = as_many e seed ls own one_each; bound = bound; pair = no_pair e seed b is.other })
+    let multipliers = solved_own e covered seed best.program ls is best.is (inl best.best_read) solid in
+    solid_leaf e seed ls b kept own (record { count = as_many e seed ls own one_each; bound = bound; own = multipliers; pair = no_pair e seed b is.other })
     (kept_unless e seed covered point kept kept_is is.cover is.other solid least) solid ceiling
 
 pub never_leaf : (e : Election) (covered : Bool) (seed : Seed) (solved : Solved) (ls : List ℕ) (b : ℕ) → IsOpenSeed e covered seed → IsAnswer seed.start seed.limits.items solved
@@ -69,4 +80,5 @@ never_leaf e covered seed solved ls b is answer solved_is one_each bound =
     let solid : IsSolid e (node_in seed) = inr (inr (inr (narrow_is_solved e start limits never.program own.ground never.is never.narrow))) in
     let ceiling = never_is_ceiling e start limits never.program ls b own.ground few never.is never.no_point never.none_shown never.each_row bound in
     let top = subst (IsCeiling e (node_in seed)) ceiling.1 ceiling.0 in
-    solid_leaf e seed ls b None own (record { count = as_many e seed ls own one_each; bound = bound; pair = no_pair e seed b is.other }) (inr (inr (inr top))) solid ceiling.0
+    let multipliers = solved_own e covered seed never.program ls is never.is (inr never.never_read) solid in
+    solid_leaf e seed ls b None own (record { count = as_many e seed ls own one_each; bound = bound; own = multipliers; pair = no_pair e seed b is.other }) (inr (inr (inr top))) solid ceiling.0

@@ -1,18 +1,19 @@
 -- Leaves as they are made of seeds.
-use Rattle.std.specs.Prelude.{◌≡◌, ◌≢◌, ℕ, List, Bool, true, false, Option, length}
+use Rattle.std.specs.Prelude.{◌≡◌, ◌≢◌, ◌⊎◌, ℕ, List, [], ◌∷◌, Bool, true, false, Option, length}
 use Rattle.row_program.specs.Method.{IsWide}
 use Rattle.row_program.specs.Points.{IsLeastCost, IsLeastPoint}
 use Rattle.row_program.specs.declared.Limit.{Limit}
 use Rattle.row_program.specs.declared.program.Point.{Point}
 use Rattle.row_program.specs.declared.program.Program.{Program}
 use Rattle.dual_theory.specs.Multipliers.{BoundsCost, RulesOut}
-use Rattle.lex_dual.specs.Answers.{HasNoPoint, OnBest, OnNever, multipliers_in}
+use Rattle.lex_dual.specs.Answers.{HasNoPoint, IsReadAtBest, IsReadAtNever, OnBest, OnNever, multipliers_in}
 use Rattle.lex_dual.specs.declared.solved.Solved.{Solved}
 use Rattle.goal_rows.specs.Elections.{Election}
 use Rattle.goal_rows.specs.declared.goals.Goal.TheVariants.{Root}
 use Rattle.goal_rows.specs.declared.parts.Ground.{Ground}
+use Rattle.dual_bound.specs.CellCuts.{cell_multipliers}
 use Rattle.node_bounds.specs.Ceilings.{IsProgramOf}
-use Rattle.search_theory.specs.Branchings.{IsCompleteCell, is_pair}
+use Rattle.search_theory.specs.Branchings.{IsCompleteCell, IsSolid, IsSolvable, is_pair}
 use Rattle.search_theory.specs.Ends.{IsKnown, Problem}
 use Rattle.search_theory.specs.Leaves.{IsCutTo, IsLeaf}
 use Rattle.search_theory.specs.Spots.{has_cover}
@@ -33,12 +34,26 @@ leaf_from seed multipliers bound point = record {
   depth = seed.depth;
 }
 
--- it has the seed's node and depth, knows of itself what a leaf does, and is cut to its ceiling where it is solid, and
--- else to the seed's bound
+-- the multipliers that the method reads off its last form of the program
+abbrev pub AreRead : Program → List ℕ → Type 0
+AreRead program multipliers = IsReadAtBest program multipliers ⊎ IsReadAtNever program multipliers
+
+-- the multipliers of a seed's node: 1 for a pair; for a cell of a complete goal those that its values show; for another
+-- node those of its program, where the method solves that; and where the node isn't solid, what the seed inherits
+pub record AreOwn (e : Election) (seed : Seed) (multipliers : List ℕ) : Type 0 where
+  pub pair : is_pair seed.start.goal ≡ true → multipliers ≡ 1 ∷ []
+  pub cell : IsCompleteCell e (node_in seed) → multipliers ≡ cell_multipliers seed.start seed.limits.items
+  pub solved : is_pair seed.start.goal ≡ false → (IsCompleteCell e (node_in seed) → ⊥) → IsSolvable e (node_in seed) →
+      (program : Program) × IsProgramOf seed.start seed.limits.items program × AreRead program multipliers
+  pub inherited : (IsSolid e (node_in seed) → ⊥) → multipliers ≡ seed.inherited
+
+-- it has the seed's node and depth, the node's multipliers, knows of itself what a leaf does, and is cut to its ceiling
+-- where it is solid, and else to the seed's bound
 pub record IsLeafOf (e : Election) (seed : Seed) (leaf : KeptLeaf) : Type 0 where
   pub ground : leaf.start ≡ seed.start
   pub limits : leaf.limits ≡ seed.limits
   pub depth : leaf.depth ≡ seed.depth
+  pub multipliers : AreOwn e seed leaf.multipliers
   pub own : (p : Problem) → p.election ≡ e → IsKnown p → IsLeaf p (leaf_of leaf)
   pub cut : IsCutTo e seed.bound (leaf_of leaf)
 
@@ -79,3 +94,5 @@ pub record IsAnswer (start : Ground) (limits : List Limit) (solved : Solved) : T
   pub cost_shown : OnBest (λ value multipliers _. BoundsCost program multipliers value.num value.den) solved
   pub no_point : OnNever (λ _. HasNoPoint program) solved
   pub none_shown : OnNever (λ multipliers. RulesOut program multipliers) solved
+  pub best_read : OnBest (λ _ multipliers _. IsReadAtBest program multipliers) solved
+  pub never_read : OnNever (λ multipliers. IsReadAtNever program multipliers) solved

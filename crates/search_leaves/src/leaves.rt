@@ -1,5 +1,5 @@
 // Leaves, and how they are made.
-ghost use Rattle.std.specs.Prelude.{◌≡◌, ◌≢◌, ◌+◌, ◌↔◌, Bool, IfOk, IsTrue, None, Some, if◌then◌else◌, length, true};
+ghost use Rattle.std.specs.Prelude.{◌≡◌, ◌≢◌, ◌+◌, ◌↔◌, IfOk, IsTrue, if◌then◌else◌, length};
 ghost use Rattle.goal_rows.specs.Elections.{Election};
 ghost use Rattle.goal_rows.specs.Nodes.{without_limits};
 ghost use Rattle.goal_rows.specs.Races.{IsGroundIn, IsRace, election_of};
@@ -11,7 +11,8 @@ ghost use Rattle.search_theory.specs.Ends.{IsKnown, Problem};
 ghost use Rattle.search_theory.specs.Leaves.{IsCutTo, IsLeaf};
 ghost use Rattle.search_theory.specs.Spots.{has_cover as has_some_cover};
 ghost use Rattle.search_leaves.specs.Kept.{IsSeed, leaf_of, node_in};
-ghost use Rattle.search_leaves.specs.NewLeaves.{IsAnswer, IsCellSeed, IsLeafOf, IsOpenSeed, IsPairSeed, IsSomeSeed, leaf_from};
+ghost use Rattle.search_leaves.specs.NewLeaves.{AreOwn, IsAnswer, IsCellSeed, IsLeafOf, IsOpenSeed, IsPairSeed};
+ghost use Rattle.search_leaves.specs.NewLeaves.{IsSomeSeed, leaf_from};
 ghost use Rattle.search_leaves.specs.Rooms.{HasRoom};
 
 use crate::seeds::Seed;
@@ -78,6 +79,7 @@ pub fn new_leaf(
     ensures leaf { IfOk result (λ leaf. (p : Problem) → p.election ≡ election_of race.now → IsKnown p →
         IsLeaf p (leaf_of leaf)) }
     ensures cut { IfOk result (λ leaf. IsCutTo (election_of race.now) seed.bound (leaf_of leaf)) }
+    ensures multipliers { IfOk result (λ leaf. AreOwn (election_of race.now) seed leaf.multipliers) }
     ensures depth { IfOk result (λ leaf. leaf.depth ≡ seed.depth) }
 {
     if is_pair(&seed.start.goal) {

@@ -21,7 +21,7 @@ returns-clause-leaf c e is =
     let seed = c.args.seed in
     let said = c.in_ok-multipliers.ensures in
     let cut : IsCutCell e seed.start c.as_slice.result.now c.in_ok-multipliers.multipliers =
-    record { cost = λ met. said.cost met e is.own.ground; beyond = λ never. said.beyond never e is.own.ground } in
+    record { each = said.each; cost = λ met. said.cost met e is.own.ground; beyond = λ never. said.beyond never e is.own.ground } in
     subst (IsLeafOf e seed) (sym c.leaf_with.ensures.leaf)
     (cell_leaf e seed c.as_slice.result.now c.as_slice-2.result.now c.in_ok-multipliers.multipliers c.leaf_with.result.bound c.in_ok-point.point is c.as_slice.ensures.value c.as_slice-2.ensures.value
     said.one_each.one_each cut c.in_ok-point.ensures (c.leaf_with.ensures.bound e is.own))

@@ -24,6 +24,8 @@ answered_leaf-requires-clause-answer c =
       cost_shown = said.cost_shown;
       no_point = said.no_point;
       none_shown = said.none_shown;
+      best_read = said.best_multipliers;
+      never_read = said.never_multipliers;
     }
 
 pub returns-in-Err-Wide : goal.returns-in-Err-Wide
