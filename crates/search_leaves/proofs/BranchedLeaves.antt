@@ -60,9 +60,9 @@ halves_at e node start b place v is same has stands feature low high =
       small = (let most = high_below node.limits v in omega (arith, high, most, ends.most));
       low = subst (λ f. low_end node.limits f ≤ b.value) (sym feature) low;
       high = λ k d lt also.
-      let w = get_or (variables_at e node) k d in
-      let alone : w ≡ v = subst (λ (g : Ground). k < length (variables_of g) → (get_or (variables_of g) k d).feature ≡ v.feature → get_or (variables_of g) k d ≡ v) same (ends.alone k d) lt (also ∙ feature) in
-      subst (λ w. b.value < high_end node.limits w) (sym alone) high;
+          let w = get_or (variables_at e node) k d in
+          let alone : w ≡ v = subst (λ (g : Ground). k < length (variables_of g) → (get_or (variables_of g) k d).feature ≡ v.feature → get_or (variables_of g) k d ≡ v) same (ends.alone k d) lt (also ∙ feature) in
+          subst (λ w. b.value < high_end node.limits w) (sym alone) high;
     }
 
 -- ---- at a point

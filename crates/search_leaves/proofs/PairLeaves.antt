@@ -68,8 +68,8 @@ reached_by e seed b is bound p same known pair within =
     let met = bound_is_met e bare.g bare.l b is.own.ground.election reached.1 (subst (λ n. IsBound e n (1 ∷ []) b) node bound) (omega (arith, within)) in
     let back = sym same in
     let known_at = subst (λ (x : Election). (g l : ℕ) (changes : List (ℕ × List ℕ)) → Contains x.roots (Pair g l) →
-        IsAlteration x.poll changes → Holds x (Pair g l) (after x.poll changes).ballots →
-        (u : ℕ) × (p.upper ≡ Some u) × (u ≤ length changes)) same known.pairs in
+    IsAlteration x.poll changes → Holds x (Pair g l) (after x.poll changes).ballots →
+    (u : ℕ) × (p.upper ≡ Some u) × (u ≤ length changes)) same known.pairs in
     let most = known_at bare.g bare.l met.changes reached.0 met.are met.holds in
     (most.0, most.1, (let le = most.2 in let few = met.few in omega (arith, le, few)))
 

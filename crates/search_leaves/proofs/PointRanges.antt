@@ -74,15 +74,15 @@ one_end e start place v is stands =
     record {
       most = subst (λ (w : Variable). w.end ≤ MOST_BALLOTS) there (ends_small e start is place v within);
       alone = λ k d lt same.
-      let other : get_or (features_of start) k g ≡ g = feature_there vs k d g lt ∙ same in
-      let here : k ≡ place = elim (cases_lt k place) [
-        | inl less ↦ absurd (let two = count_two (features_of start) g k place g less (omega (arith, within, long)) other at in omega (arith, two, once))
-        | inr le ↦ elim (cases_lt place k) [
-          | inl more ↦ absurd (let two = count_two (features_of start) g place k g more (omega (arith, lt, long)) at other in omega (arith, two, once))
-          | inr also ↦ omega (arith, le, also)
-        ]
-      ] in
-      ap (λ j. get_or vs j d) here ∙ get_or_default vs place d v within ∙ there;
+          let other : get_or (features_of start) k g ≡ g = feature_there vs k d g lt ∙ same in
+          let here : k ≡ place = elim (cases_lt k place) [
+            | inl less ↦ absurd (let two = count_two (features_of start) g k place g less (omega (arith, within, long)) other at in omega (arith, two, once))
+            | inr le ↦ elim (cases_lt place k) [
+              | inl more ↦ absurd (let two = count_two (features_of start) g place k g more (omega (arith, lt, long)) at other in omega (arith, two, once))
+              | inr also ↦ omega (arith, le, also)
+            ]
+          ] in
+          ap (λ j. get_or vs j d) here ∙ get_or_default vs place d v within ∙ there;
     }
 
 -- ---- points

@@ -33,9 +33,9 @@ whole_den e node q least each =
       all_variables = length-map q.whole (λ n. n / den) ∙ least.point.all_variables;
       positive = omega arith;
       meets = λ k d lt.
-      let row = get_or rows k d in
-      let met = subst (λ ys. pos 0 ≤ℤ row_value row ys den) (sym again) (least.point.meets k d lt) in
-      not_below den (row_value row xs 1) least.point.positive (subst (λ z. pos 0 ≤ℤ z) (scaled_row den xs row) met);
+          let row = get_or rows k d in
+          let met = subst (λ ys. pos 0 ≤ℤ row_value row ys den) (sym again) (least.point.meets k d lt) in
+          not_below den (row_value row xs 1) least.point.positive (subst (λ z. pos 0 ≤ℤ z) (scaled_row den xs row) met);
     } in
     let values : SameValues q.whole q.den xs 1 = λ k. let at = ap (λ ys. slice_index ys k) again in let is = scaled_at den xs k in omega (arith, at, is) in
     let most = least.lowest xs 1 point values in

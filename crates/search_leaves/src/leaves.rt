@@ -142,12 +142,7 @@ fn cell_leaf(alloc: Global, scratch: &mut Scratch, seed: Seed) -> Result<Leaf, M
 }
 
 /// The leaf of a node whose program is solved where the method meets no wide number; whether its goal has a cover.
-fn solved_leaf(
-    alloc: Global,
-    tools: &mut Tools,
-    seed: Seed,
-    covered: bool,
-) -> Result<Leaf, Memory>
+fn solved_leaf(alloc: Global, tools: &mut Tools, seed: Seed, covered: bool) -> Result<Leaf, Memory>
     requires { (e : Election) × IsOpenSeed e covered seed }
     ensures { (e : Election) → IsOpenSeed e covered seed → IfOk result (IsLeafOf e seed) }
 {
@@ -170,7 +165,9 @@ fn answered_leaf(scratch: &mut Scratch, seed: Seed, covered: bool, solved: Solve
 {
     match solved {
         Solved::Best {
-            multipliers, point, ..
+            multipliers,
+            point,
+            ..
         } => leaf_with(scratch, seed, multipliers, unless_covered(covered, point)),
         Solved::Never { multipliers } => leaf_with(scratch, seed, multipliers, None),
     }
