@@ -1,0 +1,11 @@
+pub mod Walking
+pub mod Places
+pub mod CutPlaces
+pub mod Turning
+pub mod Kids
+pub mod Complete
+pub mod NotRoot
+pub mod Steps
+pub mod Starts
+pub mod WholePoints
+pub mod Results
