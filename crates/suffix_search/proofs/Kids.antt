@@ -1,18 +1,27 @@
 -- The leaves of seeds are the kids of a leaf.
-use Rattle.std.proofs.Common.{◌≡◌, ℕ, zero, suc, ◌+◌, ◌<◌, ◌≤◌, ◌++◌, ◌∙◌, List, [], ◌∷◌, All, get_or, length, map, refl, sym, ap, subst, arith}
+use Rattle.std.proofs.Common.{◌≡◌, ℕ, zero, suc, ◌+◌, ◌<◌, ◌≤◌, ◌++◌, ◌∙◌, List, [], ◌∷◌, All, true, false, cond, get_or, length, map, refl, sym, ap, subst, arith}
+use Rattle.std.proofs.lemmas.List.{length-map}
 use Rattle.std.proofs.lemmas.List.Elements.{All-cons, All-head, All-nil, All-tail}
 use Rattle.row_program.specs.declared.Limit.{Limit}
+use Rattle.bound_tree.specs.Growth.{cuts_of, replaced}
+use Rattle.bound_tree.specs.Nodes.{size}
+use Rattle.bound_tree.specs.Plain.{Branch, Cut, Plain, Split}
+use Rattle.bound_tree.specs.declared.bound.TheConstants.{MOST_NODES}
 use Rattle.goal_rows.specs.Elections.{Election, Node}
+use Rattle.goal_rows.specs.Nodes.{without_limits}
 use Rattle.goal_rows.specs.Races.{IsGroundIn}
 use Rattle.goal_rows.specs.declared.goals.Goal.{Goal}
 use Rattle.goal_rows.specs.declared.parts.Ground.{Ground}
 use Rattle.search_theory.specs.Ends.{IsKnown, Problem}
-use Rattle.search_theory.specs.Leaves.{AreMade, IsCutTo, IsMade, Leaf}
-use Rattle.search_leaves.specs.Kept.{IsSeed, IsSeedOf, leaf_of, node_at, node_in}
+use Rattle.search_theory.specs.Branchings.{Branching}
+use Rattle.search_theory.specs.Leaves.{AreMade, ByBranch, ByCover, IsCutTo, IsMade, Leaf, growth_tree, kid_nodes}
+use Rattle.search_theory.specs.Spots.{cover_list, has_cover}
+use Rattle.search_leaves.specs.Branched.{IsBranchedAt}
+use Rattle.search_leaves.specs.Kept.{CanHalve, IsSeed, IsSeedOf, leaf_of, node_at, node_in}
 use Rattle.search_leaves.specs.declared.leaves.Leaf.{Leaf as KeptLeaf}
 use Rattle.search_leaves.specs.declared.seeds.Seed.{Seed}
 use Rattle.search_leaves.specs.NewLeaves.{IsLeafOf}
-use Rattle.suffix_search.specs.Searches.{AreLeavesOf, leaves_of}
+use Rattle.suffix_search.specs.Searches.{AreKids, AreLeavesOf, MayGrowAt, leaves_of}
 
 -- ---- one after another
 
@@ -94,3 +103,69 @@ count_of_leaves e [] [] are = refl
 count_of_leaves e [] (y ∷ kids) are = absurd are
 count_of_leaves e (x ∷ seeds) [] are = absurd are
 count_of_leaves e (x ∷ seeds) (y ∷ kids) are = ap suc (count_of_leaves e seeds kids are.1)
+
+-- ---- the two kids of a branch, and those of a cover
+
+two_kids : (kids : List KeptLeaf) (low high : KeptLeaf) → length kids ≡ 2 → low ≡ get_or kids 0 low → high ≡ get_or kids 1 high → kids ≡ low ∷ high ∷ []
+two_kids [] low high two one other = absurd (omega (arith, two))
+two_kids (x ∷ []) low high two one other = absurd (omega (arith, two))
+two_kids (x ∷ y ∷ []) low high two one other = rw (one, other) refl
+two_kids (x ∷ y ∷ z ∷ kids) low high two one other = absurd (omega (arith, two))
+
+pub branch_kids : (e : Election) (leaf : KeptLeaf) (number : ℕ) (before after : Plain) (b : Branching) (seeds : List Seed) (kids : List KeptLeaf) (low high : KeptLeaf) → has_cover e leaf.start.goal ≡ false → IsBranchedAt e leaf b → CanHalve e (node_at leaf) b
+    → map node_in seeds ≡ kid_nodes e (ByBranch b) (node_at leaf) → All (IsSeedOf e leaf) seeds → AreLeavesOf e seeds kids → low ≡ get_or kids 0 low → high ≡ get_or kids 1 high
+    → after ≡ replaced number (Branch b.feature b.value (Cut low.multipliers) (Cut high.multipliers)) before → AreKids e leaf number before after kids
+branch_kids e leaf number before after b seeds kids low high none branched can nodes all are one other grown =
+    let many = length-map seeds node_in in
+    let both = ap (λ (l : List Node). length l) nodes in
+    let count = count_of_leaves e seeds kids are in
+    let two = two_kids kids low high (omega (arith, many, both, count)) one other in
+    record {
+      way = ByBranch b;
+      by = (none, branched, can);
+      tree = grown ∙ ap (λ l. replaced number (growth_tree (ByBranch b) (leaves_of l)) before) (sym two);
+      grounds = kid_grounds e leaf seeds kids all are;
+      made = λ p same known. made_as p e leaf seeds kids (kid_nodes e (ByBranch b) (node_at leaf)) same known nodes all are;
+    }
+  where
+    made_as : (p : Problem) (e : Election) (leaf : KeptLeaf) (seeds : List Seed) (kids : List KeptLeaf) (news : List Node) → p.election ≡ e → IsKnown p → map node_in seeds ≡ news → All (IsSeedOf e leaf) seeds → AreLeavesOf e seeds kids
+        → AreMade p (leaf_of leaf) news (leaves_of kids)
+    made_as p e leaf seeds kids news same known nodes all are =
+        subst (λ ns. AreMade p (leaf_of leaf) ns (leaves_of kids)) nodes
+        (are_made p leaf seeds kids known (subst (λ e. All (IsSeedOf e leaf) seeds) (sym same) all) (subst (λ e. AreLeavesOf e seeds kids) (sym same) are))
+
+lists_same : (kids : List KeptLeaf) → map (λ (leaf : KeptLeaf). leaf.multipliers) kids ≡ map (λ (leaf : Leaf). leaf.multipliers) (leaves_of kids)
+lists_same [] = refl
+lists_same (x ∷ kids) = ap (λ l. x.multipliers ∷ l) (lists_same kids)
+
+pub cover_kids : (e : Election) (leaf : KeptLeaf) (number : ℕ) (before after : Plain) (seeds : List Seed) (kids : List KeptLeaf) → has_cover e leaf.start.goal ≡ true
+    → map node_in seeds ≡ kid_nodes e ByCover (node_at leaf) → All (IsSeedOf e leaf) seeds → AreLeavesOf e seeds kids
+    → after ≡ replaced number (Split (cuts_of (map (λ (leaf : KeptLeaf). leaf.multipliers) kids))) before → AreKids e leaf number before after kids
+cover_kids e leaf number before after seeds kids covered nodes all are grown = record {
+  way = ByCover;
+  by = covered;
+  tree = grown ∙ ap (λ lists. replaced number (Split (cuts_of lists)) before) (lists_same kids);
+  grounds = kid_grounds e leaf seeds kids all are;
+  made = λ p same known. made_as p same known;
+}
+  where
+    made_as : (p : Problem) → p.election ≡ e → IsKnown p → AreMade p (leaf_of leaf) (kid_nodes e ByCover (node_at leaf)) (leaves_of kids)
+    made_as p same known =
+        subst (λ ns. AreMade p (leaf_of leaf) ns (leaves_of kids)) nodes
+        (are_made p leaf seeds kids known (subst (λ e. All (IsSeedOf e leaf) seeds) (sym same) all) (subst (λ e. AreLeavesOf e seeds kids) (sym same) are))
+
+-- as many kids come by a cover as there is room for
+pub cover_room : (e : Election) (leaf : KeptLeaf) (number : ℕ) (tree : Plain) (seeds : List Seed) (kids : List KeptLeaf) (lists : List (List ℕ)) → has_cover e leaf.start.goal ≡ true → MayGrowAt e leaf number tree
+    → map node_in seeds ≡ kid_nodes e ByCover (node_at leaf) → AreLeavesOf e seeds kids → lists ≡ map (λ (leaf : KeptLeaf). leaf.multipliers) kids → size tree + length lists ≤ MOST_NODES
+cover_room e leaf number tree seeds kids lists covered may nodes are is =
+    let many = length-map seeds node_in in
+    let news = ap (λ (l : List Node). length l) nodes in
+    let goals = length-map (cover_list e leaf.start.goal) without_limits in
+    let count = count_of_leaves e seeds kids are in
+    let long = ap (λ (l : List (List ℕ)). length l) is ∙ length-map kids (λ (leaf : KeptLeaf). leaf.multipliers) in
+    let growth = ap (λ b. cond b (length (cover_list e leaf.start.goal)) 2) covered in
+    let room = may.room in
+    omega (arith, many, news, goals, count, long, growth, room)
+
+pub two_seeds : (seeds : List Seed) (a b : Node) → map node_in seeds ≡ a ∷ b ∷ [] → length seeds ≡ 2
+two_seeds seeds a b nodes = let many = length-map seeds node_in in let two = ap (λ (l : List Node). length l) nodes in omega (arith, many, two)

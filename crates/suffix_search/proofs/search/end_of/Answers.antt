@@ -23,5 +23,5 @@ returns-in_ok-witness_of-in-AtPoint c = λ p tree low same running stops.
     let election = subst IsElection (sym same) c.requires.race.election in
     let read = read_leaf p tree c.args.leaves.now low c.in-AtPoint.place election running at c.index-leaves-place.result c.index-leaves-place.is in
     let witness = c.in_ok-witness_of-in-AtPoint.field-0 in
-    let is = subst (λ e. IsWitnessOf e c.index-leaves-place.result witness) (sym same) (c.in_ok-witness_of-in-AtPoint.ensures tt) in
+    let is = subst (λ e. IsWitnessOf e c.index-leaves-place.result witness) (sym same) c.in_ok-witness_of-in-AtPoint.ensures in
     from_leaf p tree c.args.leaves.now low c.in-AtPoint.place election running at witness (subst (λ leaf. IsWitnessOf p.election leaf witness) read is)
