@@ -1,4 +1,4 @@
-use Rattle.std.proofs.Common.{◌≡◌, ◌∙◌, ap, length, length-map, refl, subst, sym, arith}
+use Rattle.std.proofs.Common.{◌≡◌, ◌∙◌, ap, refl, subst, sym, arith}
 use Rattle.goal_rows.specs.Races.{election_of}
 use Rattle.search_leaves.specs.Kept.{node_in}
 use Rattle.suffix_search.proofs.Kids.{branch_kids, count_of_leaves, two_seeds}

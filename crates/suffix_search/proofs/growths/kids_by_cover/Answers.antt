@@ -1,4 +1,5 @@
-use Rattle.std.proofs.Common.{◌≡◌, ◌∙◌, ap, refl, subst, sym, arith}
+use Rattle.std.proofs.Common.{◌≡◌, ◌∙◌, List, ap, map, refl, subst, sym, arith}
+use Rattle.search_leaves.specs.declared.leaves.Leaf.{Leaf}
 use Rattle.goal_rows.specs.Races.{election_of}
 use Rattle.suffix_search.proofs.Kids.{cover_kids, cover_room}
 use Rattle.suffix_search.proofs.NotRoot.{kids_below}
@@ -11,7 +12,7 @@ new_leaves-requires-clause-below c =
 pub grown-requires-clause-room : goal.grown-requires-clause-room
 grown-requires-clause-room c = λ fault.
     let e = election_of c.args.race.now in
-    let lists = c.in_ok-lists.ensures ∙ ap _ c.deref.ensures.value in
+    let lists = c.in_ok-lists.ensures ∙ ap (λ (ls : List Leaf). map (λ (leaf : Leaf). leaf.multipliers) ls) c.deref.ensures.value in
     let room = cover_room e c.args.leaf.now c.args.number c.args.tree.now c.in_ok-seeds.seeds.items c.in_ok-kids.kids.items c.in_ok-lists.lists c.requires.covered c.requires.leaf c.in_ok-seeds.ensures.nodes c.in_ok-kids.ensures lists in
     let over = c.grow_split.ensures.too_many.0 fault in
     omega (arith, room, over)
