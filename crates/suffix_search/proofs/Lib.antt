@@ -8,3 +8,4 @@ pub mod NotRoot
 pub mod Steps
 pub mod Starts
 pub mod WholePoints
+pub mod Results

@@ -1,17 +1,11 @@
-use Rattle.std.proofs.Common.{◌≡◌, ◌<◌, ◌≤◌, ◌∙◌, Result, Ok, Err, ap, refl, subst, sym, arith}
-use Rattle.std.specs.Prelude.{OnOk}
-use Rattle.bound_tree.specs.Nodes.{cut_count, size}
-use Rattle.bound_tree.proofs.Places.{length_nodes}
+use Rattle.std.proofs.Common.{◌≡◌, ◌<◌, ◌≤◌, ◌∙◌, ap, refl, subst, sym, arith}
 use Rattle.goal_rows.specs.Goals.{IsElection}
 use Rattle.goal_rows.specs.Races.{election_of}
-use Rattle.suffix_search.specs.Searches.{AreKids, IsRunning, MayGrowAt}
+use Rattle.suffix_search.specs.Searches.{AreKids, MayGrowAt}
+use Rattle.suffix_search.proofs.Results.{on_ok}
 use Rattle.suffix_search.proofs.Steps.{is_leaf, may_grow_at, nearer, place_within, still_running}
 use Rattle.suffix_search.proofs.Walking.{cuts_within}
 use Rattle.suffix_search.proofs.growths.grow.Goals as goal
-
-on_ok : {T E : Type 0} (r : Result T E) (P Q : Type 0) → OnOk r P → (P → Q) → OnOk r Q
-on_ok (Ok x) P Q is more = more is
-on_ok (Err e) P Q is more = tt
 
 pub cut_number-number-requires : goal.cut_number-number-requires
 cut_number-number-requires c =

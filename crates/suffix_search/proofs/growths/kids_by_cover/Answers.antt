@@ -1,8 +1,11 @@
 use Rattle.std.proofs.Common.{◌≡◌, ◌∙◌, List, ap, map, refl, subst, sym, arith}
 use Rattle.search_leaves.specs.declared.leaves.Leaf.{Leaf}
+use Rattle.bound_tree.specs.Growth.{cuts_of, replaced}
+use Rattle.bound_tree.specs.Plain.{Split}
 use Rattle.goal_rows.specs.Races.{election_of}
 use Rattle.suffix_search.proofs.Kids.{cover_kids, cover_room}
 use Rattle.suffix_search.proofs.NotRoot.{kids_below}
+use Rattle.suffix_search.proofs.Results.{ok_gives}
 use Rattle.suffix_search.proofs.growths.kids_by_cover.Goals as goal
 
 pub new_leaves-requires-clause-below : goal.new_leaves-requires-clause-below
@@ -18,4 +21,10 @@ grown-requires-clause-room c = λ fault.
     omega (arith, room, over)
 
 pub returns : goal.returns
-returns c = ?
+returns c =
+    let e = election_of c.args.race.now in
+    let leaf = c.args.leaf.now in
+    let lists = c.in_ok-lists.ensures ∙ ap (λ (ls : List Leaf). map (λ (leaf : Leaf). leaf.multipliers) ls) c.deref.ensures.value in
+    let grown = ok_gives c.grow_split.result _ (c.in_ok-grown.ensures refl) c.grow_split.ensures.grown in
+    cover_kids e leaf c.args.number c.args.tree.now c.grow_split.new.self c.in_ok-seeds.seeds.items c.in_ok-kids.kids.items c.requires.covered c.in_ok-seeds.ensures.nodes c.in_ok-seeds.ensures.seeds c.in_ok-kids.ensures
+    (grown ∙ ap (λ ls. replaced c.args.number (Split (cuts_of ls)) c.args.tree.now) lists)

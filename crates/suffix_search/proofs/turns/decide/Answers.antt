@@ -1,5 +1,4 @@
 use Rattle.std.proofs.Common.{◌≡◌, ◌+◌, ◌<◌, ◌≤◌, ◌∙◌, Bool, Some, true, false, ap, inl, inr, refl, subst, sym, arith}
-use Rattle.std.specs.Prelude.{not}
 use Rattle.std.proofs.lemmas.Bool.{cases_lt, false≢true}
 use Rattle.std.proofs.lemmas.Bool.Decides.{nat_tests}
 use Rattle.bound_tree.specs.Nodes.{size}
@@ -11,14 +10,6 @@ use Rattle.search_theory.specs.Trees.{top_of}
 use Rattle.suffix_search.specs.Searches.{growth_at}
 use Rattle.suffix_search.proofs.Turning.{IsLeast, grows, stops_at_point, stops_at_top, stops_deep, stops_empty, stops_full, stops_met}
 use Rattle.suffix_search.proofs.turns.decide.Goals as goal
-
-turned : (b : Bool) → not b ≡ true → b ≡ false
-turned true e = absurd (false≢true e)
-turned false e = refl
-
-kept_on : (b : Bool) → not b ≡ false → b ≡ true
-kept_on true e = refl
-kept_on false e = absurd (false≢true (sym e))
 
 pub returns-then-is_empty : goal.returns-then-is_empty
 returns-then-is_empty c =
@@ -66,7 +57,7 @@ returns-then-not-has_room c =
     let nodes = c.nodes.ensures.count in
     let full : c.args.budget < size c.args.tree.now + growth_at p.election (node_at leaf) = elim (cases_lt c.args.budget (size c.args.tree.now + growth_at p.election (node_at leaf))) [
       | inl lt ↦ lt
-      | inr le ↦ absurd (false≢true (sym (turned c.has_room.result c.if-not-has_room.true) ∙ c.has_room.ensures.1 (omega (arith, le, nodes))))
+      | inr le ↦ absurd (false≢true (sym c.if-not-has_room.true ∙ c.has_room.ensures.1 (omega (arith, le, nodes))))
     ] in
     stops_full p c.args.tree.now c.args.leaves.now c.requires.race.election c.requires.known c.requires.search c.first_least-place.result leaf least low
     (λ e. false≢true (sym c.if-is_met.false ∙ c.is_met.ensures.1 e)) (λ q at whole. false≢true (sym c.if-is_at_point.false ∙ c.is_at_point.ensures.1 (q, at, whole))) full
@@ -80,7 +71,7 @@ returns-then-leaf-ge-MOST_DEPTH c =
     let under = c.if-leaf-top.false in
     let low : leaf.bound < top_of p.election = omega (arith, top, under) in
     let nodes = c.nodes.ensures.count in
-    let has = c.has_room.ensures.0 (kept_on c.has_room.result c.if-not-has_room.false) in
+    let has = c.has_room.ensures.0 c.if-not-has_room.false in
     let room : size c.args.tree.now + growth_at p.election (node_at leaf) ≤ c.args.budget = omega (arith, has, nodes) in
     stops_deep p c.args.tree.now c.args.leaves.now c.requires.race.election c.requires.known c.requires.search c.first_least-place.result leaf least low
     (λ e. false≢true (sym c.if-is_met.false ∙ c.is_met.ensures.1 e)) (λ q at whole. false≢true (sym c.if-is_at_point.false ∙ c.is_at_point.ensures.1 (q, at, whole))) room c.if-leaf-ge-MOST_DEPTH.true
@@ -94,7 +85,7 @@ returns c =
     let under = c.if-leaf-top.false in
     let low : leaf.bound < top_of p.election = omega (arith, top, under) in
     let nodes = c.nodes.ensures.count in
-    let has = c.has_room.ensures.0 (kept_on c.has_room.result c.if-not-has_room.false) in
+    let has = c.has_room.ensures.0 c.if-not-has_room.false in
     let room : size c.args.tree.now + growth_at p.election (node_at leaf) ≤ c.args.budget = omega (arith, has, nodes) in
     grows p c.args.tree.now c.args.leaves.now c.requires.race.election c.requires.known c.requires.search c.first_least-place.result leaf least low
     (λ e. false≢true (sym c.if-is_met.false ∙ c.is_met.ensures.1 e)) (λ q at whole. false≢true (sym c.if-is_at_point.false ∙ c.is_at_point.ensures.1 (q, at, whole))) room c.if-leaf-ge-MOST_DEPTH.false
