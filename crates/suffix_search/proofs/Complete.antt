@@ -1,15 +1,13 @@
 -- A goal that is reached and has no cover is complete.
-use Rattle.std.proofs.Common.{◌≡◌, ℕ, ◌+◌, ◌<◌, ◌≤◌, ◌∙◌, List, Bool, Option, Some, None, true, false, cond, length, refl, sym, ap, subst, arith}
+use Rattle.std.proofs.Common.{◌≡◌, ℕ, ◌≤◌, List, Bool, Some, None, true, false, cond, length, refl, sym, arith}
 use Rattle.std.specs.Prelude.{nat_lt}
 use Rattle.std.specs.Option.{is_some}
 use Rattle.std.proofs.lemmas.Bool.{false≢true}
 use Rattle.std.proofs.lemmas.Bool.Decides.{nat_tests}
-use Rattle.ballot_form.specs.Ballots.{IsValidBallot}
 use Rattle.ballot_form.proofs.Lengths.{length_valid}
-use Rattle.irv_count.specs.Orders.{IsOrder}
 use Rattle.irv_count.proofs.Whole.{order_from_valid}
 use Rattle.goal_rows.specs.Elections.{Election}
-use Rattle.goal_rows.specs.Goals.{IsComplete, IsElection, IsReached, cover_of, longer_suffixes}
+use Rattle.goal_rows.specs.Goals.{IsComplete, IsElection, IsReached, longer_suffixes}
 use Rattle.goal_rows.specs.declared.goals.Goal.{Goal}
 use Rattle.goal_rows.specs.declared.goals.Goal.TheVariants.{Root, Suffix, Pair, Cover}
 use Rattle.goal_rows.proofs.Ways.{reached_exactly}

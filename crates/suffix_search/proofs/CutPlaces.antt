@@ -1,7 +1,7 @@
 -- A cut of a tree is a node that stands as deep as it hangs.
-use Rattle.std.proofs.Common.{◌≡◌, ℕ, zero, suc, ◌+◌, ◌-◌, ◌<◌, ◌≤◌, ◌++◌, ◌∙◌, List, [], ◌∷◌, Some, length, refl, sym, ap, subst, arith, inl, inr}
+use Rattle.std.proofs.Common.{◌≡◌, ℕ, zero, suc, ◌+◌, ◌-◌, ◌<◌, ◌++◌, ◌∙◌, List, [], ◌∷◌, length, refl, sym, subst, arith, inl, inr}
 use Rattle.std.proofs.lemmas.Bool.{cases_lt, lt-ltb, le-ltb}
-use Rattle.bound_tree.specs.Nodes.{cut_count, cut_count_all, size, size_all}
+use Rattle.bound_tree.specs.Nodes.{cut_count, cut_count_all, size}
 use Rattle.bound_tree.specs.Places.{IsAtDepth, IsCut, IsPlace, IsPlaceIn}
 use Rattle.bound_tree.specs.Plain.{Plain, Kids, Split, Branch, Cut, None, More}
 use Rattle.bound_tree.specs.declared.bound.TheConstants.{MOST_DEPTH}

@@ -1,5 +1,5 @@
 -- The leaves of seeds are the kids of a leaf.
-use Rattle.std.proofs.Common.{◌≡◌, ℕ, zero, suc, ◌+◌, ◌<◌, ◌≤◌, ◌++◌, ◌∙◌, List, [], ◌∷◌, All, true, false, cond, get_or, length, map, refl, sym, ap, subst, arith}
+use Rattle.std.proofs.Common.{◌≡◌, ℕ, suc, ◌+◌, ◌≤◌, ◌++◌, ◌∙◌, List, [], ◌∷◌, All, true, false, cond, get_or, length, map, refl, sym, ap, subst, arith}
 use Rattle.std.proofs.lemmas.List.{length-map}
 use Rattle.std.proofs.lemmas.List.Elements.{All-cons, All-head, All-nil, All-tail}
 use Rattle.row_program.specs.declared.Limit.{Limit}
@@ -10,14 +10,13 @@ use Rattle.bound_tree.specs.declared.bound.TheConstants.{MOST_NODES}
 use Rattle.goal_rows.specs.Elections.{Election, Node}
 use Rattle.goal_rows.specs.Nodes.{without_limits}
 use Rattle.goal_rows.specs.Races.{IsGroundIn}
-use Rattle.goal_rows.specs.declared.goals.Goal.{Goal}
 use Rattle.goal_rows.specs.declared.parts.Ground.{Ground}
 use Rattle.search_theory.specs.Ends.{IsKnown, Problem}
 use Rattle.search_theory.specs.Branchings.{Branching}
 use Rattle.search_theory.specs.Leaves.{AreMade, ByBranch, ByCover, IsCutTo, IsMade, Leaf, growth_tree, kid_nodes}
 use Rattle.search_theory.specs.Spots.{cover_list, has_cover}
 use Rattle.search_leaves.specs.Branched.{IsBranchedAt}
-use Rattle.search_leaves.specs.Kept.{CanHalve, IsSeed, IsSeedOf, leaf_of, node_at, node_in}
+use Rattle.search_leaves.specs.Kept.{CanHalve, IsSeedOf, leaf_of, node_at, node_in}
 use Rattle.search_leaves.specs.declared.leaves.Leaf.{Leaf as KeptLeaf}
 use Rattle.search_leaves.specs.declared.seeds.Seed.{Seed}
 use Rattle.search_leaves.specs.NewLeaves.{IsLeafOf}
@@ -94,9 +93,10 @@ pub are_made : (p : Problem) (parent : KeptLeaf) (seeds : List Seed) (kids : Lis
 are_made p parent [] [] known all are = tt
 are_made p parent [] (y ∷ kids) known all are = absurd are
 are_made p parent (x ∷ seeds) [] known all are = absurd are
-are_made p parent (x ∷ seeds) (y ∷ kids) known all are =
-    (made_one p parent x y known (All-head (IsSeedOf p.election parent) x seeds all) are.0,
-    are_made p parent seeds kids known (All-tail (IsSeedOf p.election parent) x seeds all) are.1)
+are_made p parent (x ∷ seeds) (y ∷ kids) known all are = (
+  made_one p parent x y known (All-head (IsSeedOf p.election parent) x seeds all) are.0,
+  are_made p parent seeds kids known (All-tail (IsSeedOf p.election parent) x seeds all) are.1,
+)
 
 pub count_of_leaves : (e : Election) (seeds : List Seed) (kids : List KeptLeaf) → AreLeavesOf e seeds kids → length kids ≡ length seeds
 count_of_leaves e [] [] are = refl

@@ -1,11 +1,11 @@
 -- The root is no kid and no half.
-use Rattle.std.proofs.Common.{◌≡◌, ◌≢◌, ℕ, zero, suc, ◌+◌, ◌<◌, ◌≤◌, ◌∙◌, List, [], ◌∷◌, All, Bool, Some, None, true, false, cond, get_or, length, map, refl, sym, ap, subst, arith}
+use Rattle.std.proofs.Common.{◌≡◌, ◌≢◌, ℕ, zero, suc, ◌<◌, ◌∙◌, List, [], ◌∷◌, All, Bool, Some, None, true, false, cond, get_or, length, map, refl, sym, ap, arith}
 use Rattle.std.specs.Prelude.{Contains, nat_lt}
 use Rattle.std.proofs.lemmas.List.{length-map}
 use Rattle.goal_rows.specs.Cells.{HasFeatures}
 use Rattle.goal_rows.specs.Elections.{Election, Node}
 use Rattle.goal_rows.specs.Goals.{AreRoots, kid_goals, longer_suffixes}
-use Rattle.goal_rows.specs.Nodes.{high_half, low_half, without_limits}
+use Rattle.goal_rows.specs.Nodes.{without_limits}
 use Rattle.goal_rows.specs.declared.goals.Goal.{Goal}
 use Rattle.goal_rows.specs.declared.goals.Goal.TheVariants.{Root, Suffix, Pair, Cover}
 use Rattle.goal_rows.proofs.Ways.{no_root}

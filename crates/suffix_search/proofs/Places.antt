@@ -1,5 +1,5 @@
 -- Lists with other items in the place of one.
-use Rattle.std.proofs.Common.{◌≡◌, ℕ, zero, suc, ◌+◌, ◌<◌, ◌++◌, List, [], ◌∷◌, All, drop, get_or, length, map, take, refl, ap, arith}
+use Rattle.std.proofs.Common.{◌≡◌, ℕ, zero, suc, ◌+◌, ◌<◌, ◌++◌, List, [], ◌∷◌, drop, get_or, length, map, take, refl, ap, arith}
 use Rattle.std.proofs.lemmas.List.{map-append}
 use Rattle.search_theory.specs.Spots.{put_at}
 

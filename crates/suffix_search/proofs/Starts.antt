@@ -1,35 +1,32 @@
 -- A search where it begins and where it ends.
-use Rattle.std.proofs.Common.{◌≡◌, ℕ, zero, suc, ◌+◌, ◌<◌, ◌≤◌, ◌++◌, ◌∙◌, List, [], ◌∷◌, All, Some, false, get_or, length, map, refl, sym, ap, subst, arith}
+use Rattle.std.proofs.Common.{◌≡◌, ℕ, suc, ◌≤◌, ◌++◌, ◌∙◌, List, [], ◌∷◌, All, false, get_or, length, refl, sym, ap, subst, arith}
 use Rattle.std.specs.Prelude.{pos, ◌≤ℤ◌}
 use Rattle.std.proofs.lemmas.List.Elements.{All-append, All-cons, All-nil}
 use Rattle.row_program.specs.Points.{row_value}
 use Rattle.row_program.specs.declared.Limit.{Limit}
 use Rattle.row_program.specs.declared.program.Row.{Row}
-use Rattle.bound_tree.specs.Nodes.{size}
 use Rattle.bound_tree.specs.Plain.{Cut, Plain}
-use Rattle.goal_rows.specs.Elections.{Election, Node}
+use Rattle.goal_rows.specs.Elections.{Node}
 use Rattle.goal_rows.specs.Goals.{IsElection}
 use Rattle.goal_rows.specs.Nodes.{number_count, without_limits}
-use Rattle.goal_rows.specs.Programs.{IsPointOf, class_rows_of, flow_rows_of, goal_rows_of, limit_rows_of, program_rows}
+use Rattle.goal_rows.specs.Programs.{IsPointOf, class_rows_of, flow_rows_of, goal_rows_of, limit_rows_of}
 use Rattle.goal_rows.specs.Races.{IsGroundIn}
 use Rattle.goal_rows.specs.declared.goals.Goal.TheVariants.{Root}
 use Rattle.goal_rows.specs.declared.parts.Ground.{Ground}
-use Rattle.tree_proofs.specs.Proving.{Proves}
 use Rattle.node_bounds.specs.Ceilings.{IsCeiling, ground_at, node_cost}
 use Rattle.node_bounds.proofs.CeilingCuts.{ground_is}
-use Rattle.search_theory.specs.Branchings.{IsLeastOf, IsWhole, Values}
+use Rattle.search_theory.specs.Branchings.{IsLeastOf}
 use Rattle.search_theory.specs.Ends.{IsKnown, Problem}
-use Rattle.search_theory.specs.Leaves.{IsLeaf, IsUnderWay, Leaf, lowest}
+use Rattle.search_theory.specs.Leaves.{IsLeaf, IsUnderWay, lowest}
 use Rattle.search_theory.specs.Spots.{has_cover}
-use Rattle.search_theory.specs.Trees.{IsNeeded, IsTight}
+use Rattle.search_theory.specs.Trees.{IsNeeded}
 use Rattle.search_theory.proofs.Ended.{start, tight}
 use Rattle.search_theory.proofs.Facts.{laws_of}
 use Rattle.search_theory.proofs.Proven.{proves}
 use Rattle.search_leaves.specs.Found.{EndsSo, IsFound, IsFromPoint}
-use Rattle.search_leaves.specs.Kept.{leaf_of, node_at, values_of}
+use Rattle.search_leaves.specs.Kept.{leaf_of, node_at}
 use Rattle.search_leaves.specs.declared.leaves.Leaf.{Leaf as KeptLeaf}
 use Rattle.witness_build.specs.FromPoints.{IsPointWithout, changes_at, replaced_at}
-use Rattle.witness_build.specs.declared.ends.End.{End}
 use Rattle.witness_build.specs.declared.ends.Found.{Found}
 use Rattle.witness_build.specs.declared.pairs.Witness.{Witness}
 use Rattle.suffix_search.specs.Searches.{IsAtPlace, IsPointLeaf, IsRunning, IsWitnessOf, leaves_of}

@@ -1,33 +1,30 @@
 -- What is known of the leaf that grows, and of a search after it grew.
-use Rattle.std.proofs.Common.{◌≡◌, ℕ, zero, suc, ◌+◌, ◌-◌, ◌*◌, ◌<◌, ◌≤◌, ◌++◌, ◌∙◌, List, [], ◌∷◌, All, Bool, Option, Some, None, true, false, cond, get_or, length, map, refl, sym, ap, subst, arith, inl, inr}
-use Rattle.std.specs.Prelude.{slice_get}
+use Rattle.std.proofs.Common.{◌≡◌, ℕ, zero, suc, ◌+◌, ◌<◌, ◌≤◌, ◌∙◌, List, [], ◌∷◌, All, Option, Some, None, true, false, cond, get_or, length, refl, sym, ap, subst, arith, inl, inr}
 use Rattle.std.proofs.lemmas.Bool.{cases_lt, false≢true}
 use Rattle.std.proofs.lemmas.List.{length-map}
 use Rattle.std.proofs.lemmas.List.Elements.{All-append, All-cons, All-head, All-nil, All-tail}
-use Rattle.bound_tree.specs.Growth.{replaced}
 use Rattle.bound_tree.specs.Nodes.{cut_count, size}
 use Rattle.bound_tree.specs.Plain.{Plain}
-use Rattle.bound_tree.specs.declared.bound.TheConstants.{MOST_DEPTH, MOST_NODES}
+use Rattle.bound_tree.specs.declared.bound.TheConstants.{MOST_NODES}
 use Rattle.row_program.specs.declared.Limit.{Limit}
-use Rattle.goal_rows.specs.Cells.{HasFeatures, IsCell, Variable, high_end, low_end, variables_of}
-use Rattle.goal_rows.specs.Elections.{Election, Node}
-use Rattle.goal_rows.specs.Goals.{IsElection, cover_of}
+use Rattle.goal_rows.specs.Cells.{HasFeatures, IsCell, Variable, high_end, low_end}
+use Rattle.goal_rows.specs.Elections.{Election}
+use Rattle.goal_rows.specs.Goals.{IsElection}
 use Rattle.goal_rows.specs.Nodes.{without_limits}
 use Rattle.goal_rows.specs.Races.{IsGroundIn}
 use Rattle.goal_rows.specs.declared.goals.Goal.{Goal}
 use Rattle.goal_rows.specs.declared.goals.Goal.TheVariants.{Root, Suffix, Pair, Cover}
 use Rattle.node_bounds.specs.Ceilings.{ground_at}
-use Rattle.search_theory.specs.Branchings.{Branching, IsCompleteCell, IsFloor, IsLeastOf, IsMiddle, IsSolid, IsWhole, Values, is_pair, variables_at}
+use Rattle.search_theory.specs.Branchings.{Branching, IsSolid, Values, is_pair, variables_at}
 use Rattle.search_theory.specs.Ends.{IsKnown, Problem}
-use Rattle.search_theory.specs.Leaves.{AreMade, ByBranch, ByCover, Growth, IsKept, IsLeaf, IsUnderWay, Leaf, MayGrow, growth_tree, kid_nodes}
+use Rattle.search_theory.specs.Leaves.{AreMade, ByBranch, ByCover, Growth, IsKept, IsUnderWay, Leaf, MayGrow, growth_tree, kid_nodes}
 use Rattle.search_theory.specs.Numbers.{cut_number}
 use Rattle.search_theory.specs.Spots.{cover_list, grown, has_cover, put_at}
-use Rattle.search_theory.specs.Trees.{top_of}
-use Rattle.search_theory.proofs.Ended.{Goes, kids_of, length-made, may_branch_at_point, may_branch_in_middle, measure_falls, no_point, size_step}
+use Rattle.search_theory.proofs.Ended.{Goes, length-made, may_branch_at_point, may_branch_in_middle, measure_falls, no_point, size_step}
 use Rattle.search_theory.proofs.Facts.{laws_of}
 use Rattle.search_theory.proofs.Numbered.{grown_at_number}
 use Rattle.search_theory.proofs.Turns.{step}
-use Rattle.search_leaves.specs.Branched.{HasWide, IsBranched, IsBranchedAt, IsOpenAt, MayBranch}
+use Rattle.search_leaves.specs.Branched.{HasWide, IsBranched, IsOpenAt, MayBranch}
 use Rattle.search_leaves.specs.Kept.{CanHalve, IsGrowing, leaf_of, node_at, values_of}
 use Rattle.search_leaves.specs.declared.leaves.Leaf.{Leaf as KeptLeaf}
 use Rattle.suffix_search.specs.Searches.{AreKids, Grows, GrowsBy, IsRunning, MayGrowAt, distance, growth_at, leaves_of}
@@ -177,7 +174,7 @@ module _ (p : Problem) (tree : Plain) (kept : List KeptLeaf) (place : ℕ) (elec
         let s = step p (laws_of p election known) tree (leaves_of kept) place (leaf_of grows.leaf) are.way (leaves_of kids) running.under_way grows.first grows.on.within grows.shallow may made in
         record {
           under_way = subst (λ t. IsUnderWay p t (leaves_of now)) (sym tree_is)
-          (subst (λ l. IsUnderWay p (grown place (growth_tree are.way (leaves_of kids)) tree) l) (sym leaves_are) s.0);
+              (subst (λ l. IsUnderWay p (grown place (growth_tree are.way (leaves_of kids)) tree) l) (sym leaves_are) s.0);
           grounds = subst (All (λ (leaf : KeptLeaf). IsGroundIn p.election leaf.start)) (sym now_is) (all-put_at place (λ (leaf : KeptLeaf). IsGroundIn p.election leaf.start) kids kept are.grounds running.grounds);
           within = (let room = grows.room in omega (arith, size_after, count, room));
         }

@@ -1,17 +1,13 @@
 -- The first leaf with the least bound, and what a turn does with it.
-use Rattle.std.proofs.Common.{◌≡◌, ℕ, zero, suc, ◌+◌, ◌<◌, ◌≤◌, ◌∙◌, List, [], ◌∷◌, Option, Some, None, true, false, cond, get_or, length, map, refl, sym, ap, subst, arith, inl, inr}
-use Rattle.std.specs.Prelude.{min, option_map}
-use Rattle.std.proofs.lemmas.Bool.{false≢true}
+use Rattle.std.proofs.Common.{◌≡◌, ℕ, zero, suc, ◌+◌, ◌<◌, ◌≤◌, ◌∙◌, List, [], ◌∷◌, Some, get_or, length, refl, sym, ap, subst, arith}
 use Rattle.bound_tree.specs.Nodes.{size}
 use Rattle.bound_tree.specs.Plain.{Plain}
 use Rattle.bound_tree.specs.declared.bound.TheConstants.{MOST_DEPTH}
-use Rattle.goal_rows.specs.Elections.{Election, Node}
-use Rattle.goal_rows.specs.Goals.{IsElection, cover_of}
-use Rattle.goal_rows.specs.declared.goals.Goal.{Goal}
-use Rattle.search_theory.specs.Branchings.{IsWhole, Values, is_pair}
-use Rattle.search_theory.specs.Ends.{AtPoint, EndsAtPoint, IsEnd, IsKnown, Nothing, Problem, cuts_in}
-use Rattle.search_theory.specs.Laws.{AreLaws}
-use Rattle.search_theory.specs.Leaves.{IsFirstLeaf, IsHeld, IsUnderWay, Leaf, lowest}
+use Rattle.goal_rows.specs.Elections.{Election}
+use Rattle.goal_rows.specs.Goals.{IsElection}
+use Rattle.search_theory.specs.Branchings.{IsWhole, Values}
+use Rattle.search_theory.specs.Ends.{IsEnd, IsKnown, Nothing, Problem, cuts_in}
+use Rattle.search_theory.specs.Leaves.{IsFirstLeaf, Leaf, lowest}
 use Rattle.search_theory.specs.Spots.{Hung}
 use Rattle.search_theory.specs.Trees.{top_of}
 use Rattle.search_theory.proofs.Ended.{Goes, end_at_point, end_budget, end_depth, end_met, end_nothing, first_cut, goes_on, same_first}
@@ -19,7 +15,7 @@ use Rattle.search_theory.proofs.Facts.{laws_of}
 use Rattle.search_theory.proofs.Turns.{lowest-first}
 use Rattle.search_leaves.specs.Kept.{leaf_of, node_at, values_of}
 use Rattle.search_leaves.specs.declared.leaves.Leaf.{Leaf as KeptLeaf}
-use Rattle.suffix_search.specs.Searches.{Grows, IsAtPlace, IsRunning, IsTurn, bound_in, growth_at, leaves_of}
+use Rattle.suffix_search.specs.Searches.{IsRunning, IsTurn, bound_in, growth_at, leaves_of}
 use Rattle.suffix_search.specs.declared.turns.Stop.TheVariants as stops
 use Rattle.suffix_search.specs.declared.turns.Turn.TheVariants as turns
 

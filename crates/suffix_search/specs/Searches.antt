@@ -1,6 +1,6 @@
 -- A search in the course of its turns, and what one turn does.
 use Rattle.std.proofs.Common.{zero, suc}
-use Rattle.std.specs.Prelude.{◌≡◌, ℕ, ◌+◌, ◌-◌, ◌*◌, ◌<◌, ◌≤◌, List, [], ◌∷◌, All, Option, Some, false, true, cond, get_or, length, map}
+use Rattle.std.specs.Prelude.{◌≡◌, ℕ, ◌+◌, ◌-◌, ◌*◌, ◌<◌, ◌≤◌, List, [], ◌∷◌, All, Some, false, true, cond, get_or, length, map}
 use Rattle.bound_tree.specs.Growth.{replaced}
 use Rattle.bound_tree.specs.Nodes.{size}
 use Rattle.bound_tree.specs.Plain.{Plain}
@@ -13,10 +13,9 @@ use Rattle.witness_build.specs.FromPoints.{IsPointWithout, changes_at, replaced_
 use Rattle.witness_build.specs.Witnesses.{IsMetBy}
 use Rattle.witness_build.specs.declared.pairs.Witness.{Witness}
 use Rattle.search_theory.specs.Branchings.{IsWhole, Values, is_pair}
-use Rattle.search_theory.specs.Ends.{AtPoint, Budget, Depth, EndsAtPoint, GoesOn, IsEnd, IsKnown, Met, Nothing, Problem}
+use Rattle.search_theory.specs.Ends.{Budget, Depth, EndsAtPoint, GoesOn, IsEnd, IsKnown, Met, Nothing, Problem}
 use Rattle.search_theory.specs.Leaves.{AreMade, ByBranch, ByCover, Growth, IsFirstLeaf, IsHeld, IsUnderWay, Leaf, growth_tree, kid_nodes, lowest}
 use Rattle.search_theory.specs.Spots.{cover_list, has_cover}
-use Rattle.search_theory.specs.Trees.{top_of}
 use Rattle.search_leaves.specs.Branched.{IsBranchedAt, MayBranch}
 use Rattle.search_leaves.specs.Kept.{CanHalve, IsGrowing, leaf_of, node_at, values_of}
 use Rattle.search_leaves.specs.NewLeaves.{IsLeafOf}

@@ -1,6 +1,5 @@
-use Rattle.std.proofs.Common.{◌≡◌, ◌<◌, ◌≤◌, ◌∙◌, ap, refl, subst, sym, arith}
+use Rattle.std.proofs.Common.{subst, sym, arith}
 use Rattle.goal_rows.specs.Goals.{IsElection}
-use Rattle.goal_rows.specs.Races.{election_of}
 use Rattle.suffix_search.specs.Searches.{AreKids, MayGrowAt}
 use Rattle.suffix_search.proofs.Results.{on_ok}
 use Rattle.suffix_search.proofs.Steps.{is_leaf, may_grow_at, nearer, place_within, still_running}

@@ -1,4 +1,4 @@
-use Rattle.std.proofs.Common.{◌≡◌, ◌∙◌, ap, refl, subst, sym, arith}
+use Rattle.std.proofs.Common.{◌≡◌, ◌∙◌, ap, refl, arith}
 use Rattle.bound_tree.specs.Growth.{replaced}
 use Rattle.bound_tree.specs.Plain.{Branch, Cut}
 use Rattle.goal_rows.specs.Races.{election_of}

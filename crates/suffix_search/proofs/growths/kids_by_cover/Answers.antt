@@ -1,4 +1,4 @@
-use Rattle.std.proofs.Common.{◌≡◌, ◌∙◌, List, ap, map, refl, subst, sym, arith}
+use Rattle.std.proofs.Common.{◌∙◌, List, ap, map, refl, arith}
 use Rattle.search_leaves.specs.declared.leaves.Leaf.{Leaf}
 use Rattle.bound_tree.specs.Growth.{cuts_of, replaced}
 use Rattle.bound_tree.specs.Plain.{Split}

@@ -1,4 +1,4 @@
-use Rattle.std.proofs.Common.{◌≡◌, ap, refl, subst, sym}
+use Rattle.std.proofs.Common.{subst}
 use Rattle.goal_rows.specs.Races.{election_of}
 use Rattle.search_leaves.specs.NewLeaves.{IsLeafOf}
 use Rattle.suffix_search.proofs.Kids.{AreSown, one_sown}

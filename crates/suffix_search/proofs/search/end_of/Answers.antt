@@ -1,4 +1,4 @@
-use Rattle.std.proofs.Common.{◌≡◌, ◌∙◌, sym, subst}
+use Rattle.std.proofs.Common.{sym, subst}
 use Rattle.goal_rows.specs.Goals.{IsElection}
 use Rattle.suffix_search.specs.Searches.{IsPointLeaf, IsWitnessOf, StopsSo}
 use Rattle.suffix_search.proofs.Starts.{from_leaf, point_leaf, read_leaf}

@@ -1,4 +1,4 @@
-use Rattle.std.proofs.Common.{◌≡◌, ◌∙◌, ◌++◌, ◌∷◌, [], ap, refl, sym, subst}
+use Rattle.std.proofs.Common.{◌≡◌, ◌∙◌, ◌++◌, ◌∷◌, [], ap, sym, subst}
 use Rattle.bound_tree.specs.Plain.{Cut}
 use Rattle.goal_rows.specs.Nodes.{without_limits}
 use Rattle.goal_rows.specs.Races.{IsGroundIn}

@@ -1,8 +1,7 @@
-use Rattle.std.proofs.Common.{◌≡◌, ◌+◌, ◌<◌, ◌≤◌, ◌∙◌, Bool, Some, true, false, ap, inl, inr, refl, subst, sym, arith}
+use Rattle.std.proofs.Common.{◌+◌, ◌<◌, ◌≤◌, ◌∙◌, ap, inl, inr, sym, arith}
 use Rattle.std.proofs.lemmas.Bool.{cases_lt, false≢true}
 use Rattle.std.proofs.lemmas.Bool.Decides.{nat_tests}
 use Rattle.bound_tree.specs.Nodes.{size}
-use Rattle.goal_rows.specs.Races.{election_of}
 use Rattle.search_leaves.specs.Found.{problem_of}
 use Rattle.search_leaves.specs.Kept.{node_at}
 use Rattle.search_theory.specs.Ends.{Problem}
