@@ -1,5 +1,5 @@
--- The replacements that a point stands for: in each class the lowest-numbered ballots, as many as its variable says, and
--- new ballots that use the arcs of a suffix as often as the point says, or that rank one candidate alone.
+-- The replacements that a point stands for: in each class the lowest-numbered ballots, as many as its variable says,
+-- and new ballots that use the arcs of a suffix as often as the point says, or that rank one candidate alone.
 use Rattle.std.specs.Prelude.{ℕ, ◌-◌, ◌==◌, nat_lt, Bool, List, [], ◌∷◌, if◌then◌else◌, count_by, drop, filter, length, map, replicate, slice_index, take}
 use Rattle.std.specs.List.{range_with_len, zip}
 use Rattle.sig_graph.specs.Flows.{IsFlow}
@@ -37,7 +37,8 @@ times_seen key keys = count_by (λ other. other == key) keys
 -- fewer ballots of the key of this one stand before it than are replaced
 abbrev pub is_low : List ℕ → (ℕ → ℕ) → ℕ → Bool
 is_low keys wanted number =
-    nat_lt (times_seen (slice_index keys (number - 1)) (take (number - 1) keys)) (wanted (slice_index keys (number - 1)))
+    nat_lt (times_seen (slice_index keys (number - 1)) (take (number - 1) keys))
+    (wanted (slice_index keys (number - 1)))
 
 -- the numbers of these ballots, from 1, ascending
 abbrev pub low_numbers : List ℕ → (ℕ → ℕ) → List ℕ
@@ -49,8 +50,8 @@ replaced_numbers e start whole = low_numbers (keys_of e start.goal) (number_for 
 
 -- ---- the new ballots
 
--- so many new ballots of a goal: under a suffix those of the paths of the flow, in order; under a pair the gainer alone,
--- and under a cover its candidate alone
+-- so many new ballots of a goal: under a suffix those of the paths of the flow, in order; under a pair the gainer
+-- alone, and under a cover its candidate alone
 abbrev pub new_ballots : Goal → List ℕ → ℕ → List (List ℕ)
 new_ballots Root flow total = []
 new_ballots (Suffix suffix) flow total = map (ballot_of suffix) (split_of (length suffix) flow total)

@@ -1,5 +1,6 @@
 // The replacements that a point stands for.
-ghost use Rattle.std.specs.Prelude.{◌≡◌, ◌≢◌, ◌≤◌, ℕ, [], ◌<◌, All, Contains, IfOk, length, map, replicate, slice_index_or, ◌∷◌};
+ghost use Rattle.std.specs.Prelude.{◌≡◌, ◌≢◌, ◌<◌, ◌≤◌, ℕ, [], ◌∷◌, All, Contains, IfOk};
+ghost use Rattle.std.specs.Prelude.{length, map, replicate, slice_index_or};
 ghost use Rattle.std.specs.List.{zip};
 ghost use Rattle.alteration_model.specs.Faults.{pairs_of};
 ghost use Rattle.ballot_form.specs.Ballots.{AreDistinct};
@@ -7,10 +8,10 @@ ghost use Rattle.sig_graph.specs.Flows.{IsFlow};
 ghost use Rattle.sig_graph.specs.Paths.{IsPath, ballot_of};
 ghost use Rattle.sig_graph.specs.Walks.{split_of};
 ghost use Rattle.signature_class.specs.Classes.{keys_of};
-ghost use Rattle.goal_rows.specs.Goals.{IsComplete, IsReached};
+ghost use Rattle.goal_rows.specs.Goals.{IsComplete};
 ghost use Rattle.goal_rows.specs.Races.{IsGroundIn, IsRace, IsSomeGround, election_of};
-ghost use Rattle.witness_build.specs.FromPoints.{IsFlowUnder, IsPointWithout, arcs_at, changes_at, new_ballots as ballots_by};
-ghost use Rattle.witness_build.specs.FromPoints.{replaced_at, replaced_numbers as numbers_at};
+ghost use Rattle.witness_build.specs.FromPoints.{IsFlowUnder, IsPointWithout, arcs_at, changes_at, replaced_at};
+ghost use Rattle.witness_build.specs.FromPoints.{new_ballots as ballots_by, replaced_numbers as numbers_at};
 ghost use Rattle.witness_build.specs.Witnesses.{IsMetBy};
 
 use crate::chosen::{NumberList, push_numbers};

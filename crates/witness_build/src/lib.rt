@@ -12,8 +12,9 @@
 //! ballots, and the ballots to replace are found in one pass over the runs of equal ballots. `cell_point` gives the one
 //! point of a cell, and `from_point` the replacements that a whole point of a complete goal stands for, after which the
 //! goal's rows hold. `Found` and `End` say what a search answers, and why it ended. The crate stands on the goals of
-//! `goal_rows`, the cells of `dual_bound`, the values of points of `node_bounds`, the flows of `sig_graph`, the pairs of
-//! `condorcet_count`, the orders of `irv_count`, the trees of `bound_tree` and the alterations of `alteration_model`.
+//! `goal_rows`, the cells of `dual_bound`, the values of points of `node_bounds`, the flows of `sig_graph`, the pairs
+//! of `condorcet_count`, the orders of `irv_count`, the trees of `bound_tree` and the alterations of
+//! `alteration_model`.
 #![tactic(auto)]
 
 mod cells;
