@@ -1,4 +1,4 @@
--- Where the cheapest replacements of the root's pairs are so many, a cut with the multiplier 1 for each pair shows it.
+-- A pair that isn't brought level by so many replacements is cut beyond them by the multiplier 1.
 use Rattle.std.proofs.Common.{ℕ, zero, suc, List, [], ◌∷◌, All, ◌≡◌, ◌<◌, ◌≤◌, ◌+◌, ◌-◌, ◌∙◌, length, map, min, ap, sym, subst, refl, inl, inr, arith}
 use Rattle.std.specs.Prelude.{ℤ, pos, ◌+ℤ◌, ◌-ℤ◌, ◌*ℤ◌, ◌<ℤ◌, slice_index_or}
 use Rattle.std.proofs.lemmas.Int.{ints}
@@ -7,7 +7,6 @@ use Rattle.std.proofs.lemmas.Bool.{cases_lt}
 use Rattle.mov_base.specs.Sums.{add_up, most, sum_z}
 use Rattle.mov_base.proofs.Signed.{sum_z-difference}
 use Rattle.ballot_form.specs.Ballots.{IsValidBallot, Poll}
-use Rattle.bound_tree.specs.Growth.{cuts_of}
 use Rattle.goal_rows.specs.Elections.{Election}
 use Rattle.goal_rows.specs.Goals.{IsElection, IsRootOf, gainer_points, loser_points, pair_weight}
 use Rattle.goal_rows.specs.Nodes.{Kept, kept_row, number_count, without_limits}
@@ -16,9 +15,7 @@ use Rattle.goal_rows.specs.declared.goals.Goal.{Goal}
 use Rattle.goal_rows.specs.declared.goals.Goal.TheVariants.{Root, Pair}
 use Rattle.goal_rows.proofs.PairPoints.{pair_points}
 use Rattle.dual_bound.specs.CutTest.{AreGains, Cuts, CutsKept, IsGain}
-use Rattle.tree_proofs.specs.Proving.{ProveAll, Proves}
-use Rattle.margin_solve.specs.Certificates.{tree_for}
-use Rattle.witness_build.specs.Witnesses.{IsPair, IsStartWitness, PairReaches, pair_deficit, pair_gains}
+use Rattle.witness_build.specs.Witnesses.{PairReaches, pair_deficit, pair_gains}
 
 -- ---- the gains of the cut test are those of the pair
 
@@ -86,37 +83,3 @@ short_is_cut e g l k is root within short =
     (most (suc k - 1) (pair_gains e g l)) weight (omega (arith, less, here)) in
     let at : min (suc k) (length e.poll.ballots + 1) ≡ suc k = omega arith in
     subst (CutsKept e.poll weighed) (sym at) (inr (pair_gains e g l, gains, omega (arith, ints, low)))
-
--- each root pair is
-abbrev AreShort : Election → ℕ → List Goal → Type 0
-AreShort e k goals = All (λ goal. IsPair goal × Cuts e (without_limits goal) (1 ∷ []) k) goals
-
--- a pair has one row
-one_row : (e : Election) (goal : Goal) → IsPair goal → 1 ≡ number_count e (without_limits goal)
-one_row e goal (g, l, pair) = subst (λ at. 1 ≡ number_count e (without_limits at)) (sym pair) refl
-
-prove_all : (e : Election) (k : ℕ) (goals : List Goal) → AreShort e k goals → ProveAll e k goals (cuts_of (map (λ goal. 1 ∷ []) goals))
-prove_all e k [] short = tt
-prove_all e k (goal ∷ goals) short =
-    let first = short 0 Root (omega arith) in
-    ((one_row e goal first.0, first.1), prove_all e k goals (λ i d lt. short (suc i) d (omega arith)))
-
-pub proved_by : (e : Election) (goal : Goal) (changes : List (ℕ × List ℕ)) (k : ℕ) → IsElection e → All IsPair e.roots → IsStartWitness e goal changes
-    → k ≡ length changes → length changes ≤ length e.poll.ballots → Proves e k (without_limits Root) (tree_for e.roots k)
-proved_by e goal changes zero is pairs start count few = (refl, inl (omega arith))
-proved_by e goal changes (suc k) is pairs start count few = (refl, (e.roots, refl, prove_all e (suc k) e.roots short))
-  where
-    cut_at : (at : ℕ) → at < length e.roots → (root : Goal) → slice_index_or e.roots at Root ≡ root → IsPair root → IsRootOf e root
-        → Cuts e (without_limits root) (1 ∷ []) (suc k)
-    cut_at at lt root here (g, l, pair) has =
-        subst (λ at. Cuts e (without_limits at) (1 ∷ []) (suc k)) (sym pair)
-        (short_is_cut e g l k is (subst (IsRootOf e) pair has) (omega (arith, few, count))
-        (λ reached. omega (arith, count, start.fewest at g l k (lt, here ∙ pair) reached)))
-
-    at_place : (at : ℕ) (d : Goal) → at < length e.roots → slice_index_or e.roots at Root ≡ slice_index_or e.roots at d
-    at_place at d lt = get_or_default e.roots at Root d lt
-
-    short : AreShort e (suc k) e.roots
-    short at d lt =
-        let pair = pairs at d lt in
-        (pair, cut_at at lt (slice_index_or e.roots at d) (at_place at d lt) pair (is.roots.each at d lt))

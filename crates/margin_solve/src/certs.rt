@@ -1,33 +1,68 @@
 // Certificates made of what was found.
-ghost use Rattle.std.specs.Prelude.{◌≡◌, ◌≤◌, ◌∷◌, [], IfOk, length, map, replicate};
+ghost use Rattle.std.specs.Prelude.{◌≡◌, ◌≢◌, ◌≤◌, [], None, Some, IfOk};
 ghost use Rattle.alteration_model.specs.Faults.{pairs_of};
-ghost use Rattle.bound_tree.specs.Growth.{cuts_of};
-ghost use Rattle.bound_tree.specs.Plain.{Split};
-ghost use Rattle.cert_text.specs.CertText.{IsPrintable};
-ghost use Rattle.goal_rows.specs.Goals.{root_goals};
+ghost use Rattle.cert_text.specs.declared.cert.Claim.TheVariants as claims;
+ghost use Rattle.cert_text.specs.declared.limits.TheConstants.{MOST_BUDGET};
+ghost use Rattle.goal_rows.specs.Goals.{IsComplete, root_goals};
 ghost use Rattle.goal_rows.specs.Races.{IsRace, election_of};
-ghost use Rattle.margin_solve.specs.Certificates.{IsCertOf, HasMargins, tree_for};
-ghost use Rattle.witness_build.specs.Witnesses.{IsMetBy, IsStartWitness};
+ghost use Rattle.goal_rows.specs.declared.goals.Goal.TheVariants.{Root as TheRoot};
+ghost use Rattle.margin_check.specs.Validity.{named_goal};
+ghost use Rattle.margin_solve.specs.Made.{HasParts, HasTurn, IsBegun, IsMade, upper_by};
+ghost use Rattle.search_leaves.specs.Found.{IsFound, problem_of};
 
-use crate::limits::LEAST_BUDGET;
+use crate::numbers::numbers_read;
 use alteration_model::{Alteration, Put, PutList};
 use ballot_form::CandList;
-use bound_tree::{BoundTree, GrowFault, MultiplierLists, Multipliers};
-use cert_text::{Cert, Claim, GoalText};
+use bound_tree::BoundTree;
+use cert_text::{Cert, Claim, GoalText, Stop};
 use goal_rows::Goal;
 use goal_rows::parts::Race;
 use mov_base::Memory;
-use std::alloc::{AllocError, Global};
-use witness_build::Witness;
+use std::alloc::Global;
+use witness_build::{End, Found, Witness};
 
-/// The certificate of a contest of one candidate: nothing turns it.
-pub(crate) fn fixed_cert(alloc: Global, race: &Race<'_>) -> Result<Cert, Memory>
+/// The certificate of a race, from what is known where the search begins, and what it found with this budget.
+pub(crate) fn cert_of(
+    alloc: Global,
+    race: &Race<'_>,
+    start: Option<Witness>,
+    budget: u32,
+    found: Found,
+) -> Result<Cert, Memory>
     requires race { IsRace race.now }
     requires own { race.now.roots ≡ root_goals race.now.rule race.now.roll.now.c race.now.reported }
-    requires solved { HasMargins race.now.rule }
-    requires alone { race.now.roll.now.c ≡ 1 }
-    ensures found { IfOk result (IsCertOf race.now.rule LEAST_BUDGET race.now.roll.now) }
-    ensures printable { IfOk result IsPrintable }
+    requires begun { IsBegun race.now start }
+    requires some { 1 ≤ budget }
+    requires most { budget ≤ MOST_BUDGET }
+    requires found { IsFound (problem_of race.now (upper_by start) budget) found }
+    ensures { IfOk result (IsMade race.now budget) }
+{
+    let Found { tree, low, end } = found;
+    numbers_read(tree.at(0));
+    let Some(start) = start else {
+        return fixed_cert(alloc, race, tree);
+    };
+    let up = start.changes.len();
+    match end {
+        End::Nothing => unreachable!(),
+        End::Met => turned_cert(alloc, race, Claim::Margin(low), &start, tree),
+        End::AtPoint(witness) => turned_cert(alloc, race, Claim::Margin(low), &witness, tree),
+        End::Budget => {
+            let stop = Stop::Budget(budget);
+            turned_cert(alloc, race, Claim::Bounds { low, up, stop }, &start, tree)
+        }
+        End::Depth => {
+            let stop = Stop::Depth;
+            turned_cert(alloc, race, Claim::Bounds { low, up, stop }, &start, tree)
+        }
+    }
+}
+
+/// The certificate that nothing turns the outcome.
+fn fixed_cert(alloc: Global, race: &Race<'_>, tree: BoundTree) -> Result<Cert, Memory>
+    ensures parts { IfOk result (HasParts race.now claims.Fixed tree) }
+    ensures goal { IfOk result (λ cert. cert.goal ≡ None) }
+    ensures puts { IfOk result (λ cert. cert.puts ≡ []) }
 {
     Ok(Cert {
         rule: race.rule,
@@ -37,35 +72,45 @@ pub(crate) fn fixed_cert(alloc: Global, race: &Race<'_>) -> Result<Cert, Memory>
         claim: Claim::Fixed,
         goal: None,
         puts: PutList::new(alloc),
-        tree: split_tree(alloc, 0)?,
+        tree,
     })
 }
 
-/// The certificate of a contest of two candidates or more, whose cheapest replacements are these.
-pub(crate) fn margin_cert(alloc: Global, race: &Race<'_>, witness: &Witness) -> Result<Cert, Memory>
-    requires race { IsRace race.now }
-    requires own { race.now.roots ≡ root_goals race.now.rule race.now.roll.now.c race.now.reported }
-    requires solved { HasMargins race.now.rule }
-    requires others { 2 ≤ race.now.roll.now.c }
-    requires start { IsStartWitness (election_of race.now) witness.now.goal witness.now.changes }
-    requires met { IsMetBy (election_of race.now) witness.now.goal witness.now.changes }
-    ensures found { IfOk result (IsCertOf race.now.rule LEAST_BUDGET race.now.roll.now) }
-    ensures printable { IfOk result IsPrintable }
+/// The certificate with this claim and these replacements.
+fn turned_cert(
+    alloc: Global,
+    race: &Race<'_>,
+    claim: Claim,
+    witness: &Witness,
+    tree: BoundTree,
+) -> Result<Cert, Memory>
+    requires below { witness.now.goal ≢ TheRoot }
+    ensures parts { IfOk result (HasParts race.now claim tree) }
+    ensures turn { IfOk result (HasTurn witness.now) }
 {
-    let Goal::Pair(gainer, loser) = witness.goal else {
-        unreachable!()
-    };
-    let count = witness.changes.len();
     Ok(Cert {
         rule: race.rule,
         c: race.roll.candidates(),
         ballots: race.roll.len(),
         reported: race.reported.copy()?,
-        claim: Claim::Margin(count),
-        goal: Some(GoalText::Pair(gainer, loser)),
+        claim,
+        goal: Some(goal_text(alloc, &witness.goal)?),
         puts: puts_of(alloc, &witness.changes)?,
-        tree: tree_of(alloc, race, count)?,
+        tree,
     })
+}
+
+/// A goal below the root as it is printed.
+fn goal_text(alloc: Global, goal: &Goal) -> Result<GoalText, Memory>
+    requires below { goal.now ≢ TheRoot }
+    ensures { IfOk result (λ text. named_goal (Some text) ≡ Some goal.now) }
+{
+    match goal {
+        Goal::Root => unreachable!(),
+        Goal::Suffix(suffix) => Ok(GoalText::Order(CandList::from_slice(alloc, suffix.as_slice())?)),
+        Goal::Pair(gainer, loser) => Ok(GoalText::Pair(*gainer, *loser)),
+        Goal::Cover(x) => Ok(GoalText::Cover(*x)),
+    }
 }
 
 /// The replacements as they are printed.
@@ -80,44 +125,4 @@ fn puts_of(alloc: Global, changes: &Alteration) -> Result<PutList, Memory>
         })?;
     }
     Ok(PutList::from_vec(puts))
-}
-
-/// The tree that shows that fewer replacements than so many don't do.
-fn tree_of(alloc: Global, race: &Race<'_>, count: u32) -> Result<BoundTree, Memory>
-    requires few { length race.now.roots ≤ 144 }
-    ensures { IfOk result (λ tree. tree ≡ tree_for race.now.roots count) }
-{
-    if count == 0 {
-        Ok(BoundTree::leaf(alloc, Multipliers::new(alloc)))
-    } else {
-        split_tree(alloc, race.roots.len())
-    }
-}
-
-/// The root split into so many cuts with the multiplier 1.
-fn split_tree(alloc: Global, count: usize) -> Result<BoundTree, Memory>
-    requires few { count ≤ 144 }
-    ensures { IfOk result (λ tree. tree ≡ Split (cuts_of (replicate count (1 ∷ [])))) }
-{
-    let kids = ones(alloc, count)?;
-    let mut tree = BoundTree::leaf(alloc, Multipliers::new(alloc));
-    match tree.grow_split(0, kids) {
-        Ok(()) => Ok(tree),
-        Err(GrowFault::Memory) => Err(AllocError),
-        Err(GrowFault::TooManyNodes) | Err(GrowFault::TooDeep) => unreachable!(),
-    }
-}
-
-/// So many lists of the multiplier 1 alone.
-#[tactic(auto, using(crate::proofs::Printing::one_list_more))]
-fn ones(alloc: Global, count: usize) -> Result<MultiplierLists, Memory>
-    ensures { IfOk result (λ lists. lists ≡ replicate count (1 ∷ [])) }
-{
-    let mut lists = MultiplierLists::new(alloc);
-    for _ in 0..count {
-        let mut one = Multipliers::new(alloc);
-        one.push(1)?;
-        lists.push(one)?;
-    }
-    Ok(lists)
 }
