@@ -74,7 +74,7 @@ module _ (race : Race) (is : IsRace race) (own : race.roots ≡ root_goals race.
 -- ---- where nobody else stands
 
 -- the first cut is the root, and there is no other node
-record IsBareRoot (tree : Plain) (first : Hung) : Type 0 where
+pub record IsBareRoot (tree : Plain) (first : Hung) : Type 0 where
   pub spot : first.spot ≡ root_spot
   pub one : size tree ≡ 1
 

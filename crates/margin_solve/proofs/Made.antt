@@ -1,24 +1,25 @@
 -- The certificates that are made are those of their contest.
-use Rattle.std.proofs.Common.{ℕ, List, [], Some, ◌≡◌, ◌<◌, ◌≤◌, ◌+◌, ◌∙◌, ◌⊎◌, Option, length, ap, sym, refl, subst, inl, inr, arith}
+use Rattle.std.proofs.Common.{ℕ, List, [], Some, ◌≡◌, ◌⊎◌, ◌<◌, ◌≤◌, ◌+◌, ◌*◌, ◌∙◌, Option, length, ap, sym, refl, subst, inl, inr, arith}
 use Rattle.std.specs.Prelude.{None as Nothing}
-use Rattle.std.specs.Prelude.{slice_index_or}
 use Rattle.std.proofs.lemmas.List.{length-map}
 use Rattle.alteration_model.specs.Faults.{pairs_of}
 use Rattle.alteration_model.specs.declared.puts.Put.{Put}
 use Rattle.ballot_form.specs.Alterations.{IsAlteration, after}
 use Rattle.ballot_form.specs.Ballots.{Poll}
-use Rattle.ballot_form.specs.declared.outcome.Outcome.{Outcome}
+use Rattle.bound_tree.specs.Nodes.{height, size}
 use Rattle.bound_tree.specs.Plain.{Plain}
-use Rattle.cert_text.specs.CertText.{BodyFits, ClaimFits, IsPrintable}
+use Rattle.bound_tree.specs.declared.bound.TheConstants.{MOST_DEPTH}
+use Rattle.cert_text.specs.CertText.{BodyFits, ClaimFits}
 use Rattle.cert_text.specs.declared.cert.Cert.{Cert}
 use Rattle.cert_text.specs.declared.cert.Claim.{Claim}
-use Rattle.cert_text.specs.declared.cert.Claim.TheVariants.{Margin, Fixed}
+use Rattle.cert_text.specs.declared.cert.Claim.TheVariants.{Margin, Fixed, Bounds}
 use Rattle.cert_text.specs.declared.cert.GoalText.{GoalText}
-use Rattle.cert_text.specs.declared.cert.GoalText.TheVariants.{Pair}
+use Rattle.cert_text.specs.declared.cert.Stop.{Stop}
+use Rattle.cert_text.specs.declared.cert.Stop.TheVariants as stops
+use Rattle.cert_text.specs.declared.limits.TheConstants.{MOST_BUDGET}
 use Rattle.goal_rows.specs.Elections.{Election}
-use Rattle.goal_rows.specs.Goals.{IsElection, IsRootOf, root_goals}
+use Rattle.goal_rows.specs.Goals.{IsDecidedByPairs, IsElection, root_goals}
 use Rattle.goal_rows.specs.Nodes.{without_limits}
-use Rattle.goal_rows.specs.Outcomes.{IsReported}
 use Rattle.goal_rows.specs.Races.{IsRace, election_of}
 use Rattle.goal_rows.specs.declared.goals.Goal.{Goal}
 use Rattle.goal_rows.specs.declared.goals.Goal.TheVariants as goals
@@ -28,29 +29,48 @@ use Rattle.margin_check.specs.Validity.{ClaimHolds, HasOrder, IsValidCert, elect
 use Rattle.margin_check.proofs.Judging.{same_election}
 use Rattle.margin_check.proofs.Meaning.{claim_is_true}
 use Rattle.margin_check.proofs.Trees.{cuts_of, shape_of}
-use Rattle.margin_solve.specs.Certificates.{IsCertOf, IsFixedCert, IsMarginCert, HasMargins, split_for, tree_for}
-use Rattle.margin_solve.proofs.Cutting.{proved_by}
-use Rattle.margin_solve.proofs.Printing.{HeadIs, TreeFits, pair_body, printable, puts_few, split_fits, tree_fits}
-use Rattle.margin_solve.proofs.Trees.{alone_without_goals, roots_few, solved_by_pairs}
-use Rattle.witness_build.specs.Witnesses.{IsMetBy, IsStartWitness}
+use Rattle.witness_build.specs.Starts.{IsStart, IsStartNumber}
+use Rattle.witness_build.specs.Witnesses.{IsMetBy}
+use Rattle.witness_build.specs.declared.pairs.Witness.{Witness}
 use Rattle.witness_build.proofs.RootPairs.{own_are_pairs}
+use Rattle.witness_build.proofs.StartNumbers.{start_number}
+use Rattle.search_theory.specs.Ends.{Ending, IsEnd, Problem, top_of}
+use Rattle.search_theory.specs.Ends as ends
+use Rattle.search_theory.specs.Trees.{IsNeeded, IsTight}
+use Rattle.search_leaves.specs.Found.{IsFromPoint, problem_of}
+use Rattle.margin_solve.specs.Certificates.{EndsAs, EndsByPairs, IsCertOf, IsFixedCert, IsFromStart, IsMetCert, IsPointCert, IsStartOf, IsStoppedCert, StopsAt}
+use Rattle.margin_solve.specs.Made.{HasParts, HasTurn, IsBegun, IsMade, upper_by}
+use Rattle.margin_solve.specs.Numbers.{AreNarrow}
+use Rattle.margin_solve.proofs.Endings.{IsWithin, fewer, within}
+use Rattle.margin_solve.proofs.PairTrees.{at_no_point, no_room}
+use Rattle.margin_solve.proofs.PrintedTrees.{tree_lines}
+use Rattle.margin_solve.proofs.Printing.{printable, turn_fits}
+use Rattle.margin_solve.proofs.Roots.{pairs_few}
 
--- a root goal is one that the election may have
-root_at : (e : Election) (goal : Goal) (place : ℕ) → IsElection e → place < length e.roots → slice_index_or e.roots place goals.Root ≡ goal → IsRootOf e goal
-root_at e goal place is lt here = subst (IsRootOf e) here (is.roots.each place goals.Root lt)
+-- the tree that a search found, and the number that it proves
+pub record IsTreeOf (e : Election) (budget low : ℕ) (tree : Plain) : Type 0 where
+  pub proof : Proves e low (without_limits goals.Root) tree
+  pub tight : IsTight e tree
+  pub needed : IsNeeded e low tree
+  pub within : size tree ≤ budget
+  pub narrow : AreNarrow tree
+  pub shallow : height tree ≤ MOST_DEPTH
 
-named_by : (text : Option GoalText) (g l : ℕ) → text ≡ Some (Pair g l) → named_goal text ≡ Some (goals.Pair g l)
-named_by text g l is = rw is refl
+-- the replacements make a complete goal hold
+record IsTurned (e : Election) (cert : Cert) (k : ℕ) : Type 0 where
+  pub goal : Goal
+  pub named : named_goal cert.goal ≡ Some goal
+  pub met : IsMetBy e goal (pairs_of cert.puts)
+  pub count : length cert.puts ≡ k
 
--- a certificate has the head of a race
-record HasHead (race : Race) (cert : Cert) : Type 0 where
-  pub rule : cert.rule ≡ race.rule
-  pub candidates : cert.c ≡ race.roll.now.c
-  pub ballots : cert.ballots ≡ length race.roll.now.ballots
-  pub reported : cert.reported ≡ race.reported
+-- what a claim says of itself: nothing, or the goal and the replacements with which it comes
+abbrev HasBody : Election → Cert → Claim → Type 0
+HasBody e cert Fixed = (cert.goal ≡ Nothing) × (cert.puts ≡ [])
+HasBody e cert (Margin k) = IsTurned e cert k
+HasBody e cert (Bounds low up stop) = IsTurned e cert up × (low < up) × ((nodes : ℕ) → stop ≡ stops.Budget nodes → (1 ≤ nodes) × (nodes ≤ MOST_BUDGET))
 
-module _ (race : Race) (cert : Cert) (is : IsRace race) (own : race.roots ≡ root_goals race.rule race.roll.now.c race.reported)
-    (solved : HasMargins race.rule) (has : HasHead race cert) where
+module _ (race : Race) (is : IsRace race) (own : race.roots ≡ root_goals race.rule race.roll.now.c race.reported) (budget : ℕ) (few : budget ≤ MOST_BUDGET)
+    (claim : Claim) (tree : Plain) (cert : Cert) (parts : HasParts race claim tree cert) where
   abbrev p : Poll
   p = race.roll.now
 
@@ -58,132 +78,206 @@ module _ (race : Race) (cert : Cert) (is : IsRace race) (own : race.roots ≡ ro
   e = election_by p cert
 
   same : election_of race ≡ e
-  same = same_election race p cert (sym has.rule) refl (sym has.reported)
-      (own ∙ ap (λ r. root_goals r p.c race.reported) (sym has.rule))
+  same = same_election race p cert (sym parts.rule) refl (sym parts.reported)
+      (own ∙ ap (λ r. root_goals r p.c race.reported) (sym parts.rule))
 
   election : IsElection e
   election = subst IsElection same is.election
 
-  solved_cert : HasMargins cert.rule
-  solved_cert = subst HasMargins (sym has.rule) solved
+  -- ---- validity and text
 
-  head : HeadIs p cert
-  head = record {
-    poll = election.poll;
-    lawful = election.lawful;
-    solved = solved_cert;
-    candidates = has.candidates;
-    ballots = has.ballots;
-    reported = election.reported;
-  }
+  holds : (c : Claim) → HasBody e cert c → ClaimHolds e c cert.goal (after p (pairs_of cert.puts)).ballots
+  holds Fixed body = tt
+  holds (Margin k) body = (body.goal, body.named, body.met.complete, body.met.holds)
+  holds (Bounds low up stop) body = (body.0.goal, body.0.named, body.0.met.complete, body.0.met.holds)
 
-  -- valid and printable certificates of few nodes are those of the contest
-  of_contest : IsValidCert p cert → IsPrintable cert → TreeFits cert.tree → IsFixedCert p cert ⊎ IsMarginCert p cert → IsCertOf race.rule 145 p cert
-  of_contest valid text tree found = record {
-    rule_is = has.rule;
-    candidates = has.candidates;
-    ballots = has.ballots;
-    reported = subst (λ r. IsReported r p cert.reported) has.rule election.reported;
-    valid = valid;
-    claim = claim_is_true p cert election.poll text valid;
-    nodes = tree.small;
-    found = found;
-  }
+  alters : (c : Claim) → HasBody e cert c → IsAlteration p (pairs_of cert.puts)
+  alters Fixed body = subst (λ puts. IsAlteration p (pairs_of puts)) (sym body.1) tt
+  alters (Margin k) body = body.met.alteration
+  alters (Bounds low up stop) body = body.0.met.alteration
 
-  -- what a tree proves makes the certificate valid
-  valid_by : IsAlteration p (pairs_of cert.puts) → ClaimHolds e cert.claim cert.goal (after p (pairs_of cert.puts)).ballots
-      → Proves e (level_of (length p.ballots) cert.claim) (without_limits goals.Root) cert.tree → HasOrder cert.claim → IsValidCert p cert
-  valid_by ok holds proved order = record {
-    head = (has.candidates, has.ballots);
-    reported = election.reported;
-    alteration = ok;
-    claim = holds;
-    shape = shape_of e (level_of (length p.ballots) cert.claim) cert.tree (without_limits goals.Root) proved;
-    cuts = cuts_of e (level_of (length p.ballots) cert.claim) cert.tree (without_limits goals.Root) proved;
-    numbers = order;
-  }
+  ordered : (c : Claim) → HasBody e cert c → HasOrder c
+  ordered Fixed body = tt
+  ordered (Margin k) body = tt
+  ordered (Bounds low up stop) body = body.1
 
-  fixed_made : p.c ≡ 1 → cert.claim ≡ Fixed → cert.goal ≡ Nothing → cert.puts ≡ [] → cert.tree ≡ split_for []
-      → IsCertOf race.rule 145 p cert × IsPrintable cert
-  fixed_made alone claim goal puts tree =
-      let none : e.roots ≡ [] = alone_without_goals cert.rule p cert.reported solved_cert election.reported alone in
-      let fits : TreeFits cert.tree = subst TreeFits (sym tree) (split_fits [] (omega arith)) in
-      let proved : Proves e (length p.ballots + 1) (without_limits goals.Root) (split_for []) = (refl, ([], ap Some none, tt)) in
-      let text = printable p cert head (subst ClaimFits (sym claim) tt)
-      (subst (λ c. BodyFits p.c c cert.goal cert.puts) (sym claim) (goal, puts)) fits in
-      let ok : IsAlteration p (pairs_of cert.puts) = subst (λ ps. IsAlteration p (pairs_of ps)) (sym puts) tt in
-      let valid = valid_by ok (subst (λ c. ClaimHolds e c cert.goal (after p (pairs_of cert.puts)).ballots) (sym claim) tt)
-      (subst (λ c. Proves e (level_of (length p.ballots) c) (without_limits goals.Root) cert.tree) (sym claim)
-      (subst (λ t. Proves e (length p.ballots + 1) (without_limits goals.Root) t) (sym tree) proved))
-      (subst HasOrder (sym claim) tt) in (
-        of_contest valid text fits (inl (record { claim = claim; alone = alone; goal = goal; puts = puts; tree = tree })),
-        text,
-      )
+  few_puts : (k : ℕ) → IsTurned e cert k → k ≤ length p.ballots
+  few_puts k turned =
+      let put : Put → ℕ × List ℕ = λ one. (one.number, one.ballot) in
+      let longest = no_longer p (pairs_of cert.puts) turned.met.alteration in
+      let same_length = length-map cert.puts put in
+      let count = turned.count in
+      omega (arith, longest, same_length, count)
 
-  margin_made : (g l : ℕ) (goal : Goal) (changes : List (ℕ × List ℕ)) → 2 ≤ p.c → IsStartWitness (election_of race) goal changes
-      → IsMetBy (election_of race) goal changes → goal ≡ goals.Pair g l → cert.claim ≡ Margin (length changes) → cert.goal ≡ Some (Pair g l)
-      → pairs_of cert.puts ≡ changes → cert.tree ≡ tree_for race.roots (length changes)
-      → IsCertOf race.rule 145 p cert × IsPrintable cert
-  margin_made g l goal changes others start met pair claim named puts tree =
-      let pairs = pairs_of cert.puts in
-      let many : length cert.puts ≡ length changes = sym (length-map cert.puts (λ (one : Put). (one.number, one.ballot))) ∙ ap length puts in
-      let starts : IsStartWitness e (goals.Pair g l) pairs =
-      subst (λ f. IsStartWitness f (goals.Pair g l) pairs) same (subst (IsStartWitness (election_of race) (goals.Pair g l)) (sym puts)
-      (subst (λ h. IsStartWitness (election_of race) h changes) pair start)) in
-      let meets : IsMetBy e (goals.Pair g l) pairs =
-      subst (λ f. IsMetBy f (goals.Pair g l) pairs) same (subst (IsMetBy (election_of race) (goals.Pair g l)) (sym puts)
-      (subst (λ h. IsMetBy (election_of race) h changes) pair met)) in
-      let claims : cert.claim ≡ Margin (length cert.puts) = claim ∙ ap Margin (sym many) in
-      let grown : cert.tree ≡ tree_for e.roots (length cert.puts) =
-      tree ∙ ap (tree_for race.roots) (sym many) ∙ ap (λ (f : Election). tree_for f.roots (length cert.puts)) same in
-      let few = roots_few cert.rule p cert.reported e.roots election.poll refl in
-      let fits : TreeFits cert.tree = subst TreeFits (sym grown) (tree_fits e.roots (length cert.puts) few) in
-      let short = puts_few p cert.puts election.poll meets.alteration in
-      let stands : IsRootOf e (goals.Pair g l) = root_at e (goals.Pair g l) starts.place election starts.within starts.stands in
-      let all_pairs = own_are_pairs cert.rule p.c cert.reported e.roots (solved_by_pairs cert.rule cert.reported solved_cert) refl in
-      let count : length pairs ≡ length cert.puts = length-map cert.puts (λ (one : Put). (one.number, one.ballot)) in
-      let proved : Proves e (length cert.puts) (without_limits goals.Root) (tree_for e.roots (length cert.puts)) =
-      proved_by e (goals.Pair g l) pairs (length cert.puts) election all_pairs starts (sym count) (omega (arith, short, count)) in
-      let text = printable p cert head (subst ClaimFits (sym claims) (omega (arith, short, election.poll.few)))
-      (subst (λ c. BodyFits p.c c cert.goal cert.puts) (sym claims)
-      (subst (λ o. BodyFits p.c (Margin (length cert.puts)) o cert.puts) (sym named)
-      (pair_body p g l (length cert.puts) cert.puts election.poll stands.1 stands.2 meets.alteration refl))) fits in
-      let holds : ClaimHolds e (Margin (length cert.puts)) (Some (Pair g l)) (after p pairs).ballots = (goals.Pair g l, refl, meets.complete, meets.holds) in
-      let valid = valid_by meets.alteration
-      (subst (λ c. ClaimHolds e c cert.goal (after p pairs).ballots) (sym claims)
-      (subst (λ o. ClaimHolds e (Margin (length cert.puts)) o (after p pairs).ballots) (sym named) holds))
-      (subst (λ c. Proves e (level_of (length p.ballots) c) (without_limits goals.Root) cert.tree) (sym claims)
-      (subst (λ t. Proves e (length cert.puts) (without_limits goals.Root) t) (sym grown) proved))
-      (subst HasOrder (sym claims) tt) in (
-        of_contest valid text fits (inr (record {
-          claim = claims;
-          others = others;
-          goal = goals.Pair g l;
-          named = named_by cert.goal g l named;
-          cheapest = starts;
-          tree = grown;
-        })),
-        text,
-      )
+  stop_fits : (stop : Stop) → ((nodes : ℕ) → stop ≡ stops.Budget nodes → (1 ≤ nodes) × (nodes ≤ MOST_BUDGET)) → StopFits stop
+  stop_fits (stops.Budget nodes) so = so nodes refl
+  stop_fits stops.Depth so = tt
 
--- ---- the same of the very certificates that are made
+  claim_fits : (c : Claim) → HasBody e cert c → ClaimFits c
+  claim_fits Fixed body = tt
+  claim_fits (Margin k) body = let most = few_puts k body in let poll = election.poll.few in omega (arith, most, poll)
+  claim_fits (Bounds low up stop) body =
+      let most = few_puts up body.0 in
+      let poll = election.poll.few in
+      let less = body.1 in
+      (omega (arith, most, poll, less), omega (arith, most, poll), stop_fits stop body.2)
 
-module _ (race : Race) (is : IsRace race) (own : race.roots ≡ root_goals race.rule race.roll.now.c race.reported) (solved : HasMargins race.rule)
-    (c ballots : ℕ) (reported : Outcome) (puts : List Put) (tree : Plain) (candidates : c ≡ race.roll.now.c)
-    (many : ballots ≡ length race.roll.now.ballots) (same_outcome : reported ≡ race.reported) where
-  abbrev of_claim : Claim → Option GoalText → Cert
-  of_claim claim goal = record { rule = race.rule; c = c; ballots = ballots; reported = reported; claim = claim; goal = goal; puts = puts; tree = tree }
+  body_fits : (c : Claim) → HasBody e cert c → BodyFits p.c c cert.goal cert.puts
+  body_fits Fixed body = body
+  body_fits (Margin k) body = turn_fits e k cert.goal body.goal cert.puts election body.named body.met body.count
+  body_fits (Bounds low up stop) body = turn_fits e up cert.goal body.0.goal cert.puts election body.0.named body.0.met body.0.count
 
-  head_of : (claim : Claim) (goal : Option GoalText) → HasHead race (of_claim claim goal)
-  head_of claim goal = record { rule = refl; candidates = candidates; ballots = many; reported = same_outcome }
+  -- a certificate with a proved tree and the body of its claim is one of its contest
+  made : (low : ℕ) → low ≡ level_of (length p.ballots) claim → IsTreeOf e budget low tree → HasBody e cert claim → EndsAs budget p cert claim
+      → (IsDecidedByPairs race.rule cert.reported → EndsByPairs budget p cert claim) → IsMade race budget cert
+  made low level found body end pairs =
+      let same_claim : claim ≡ cert.claim = sym parts.claim_is in
+      let same_tree : tree ≡ cert.tree = sym parts.tree_is in
+      let body_here : HasBody e cert cert.claim = subst (HasBody e cert) same_claim body in
+      let level_here : low ≡ level_of (length p.ballots) cert.claim = level ∙ ap (level_of (length p.ballots)) same_claim in
+      let proof : Proves e (level_of (length p.ballots) cert.claim) (without_limits goals.Root) cert.tree =
+      subst (λ n. Proves e n (without_limits goals.Root) cert.tree) level_here (subst (Proves e low (without_limits goals.Root)) same_tree found.proof) in
+      let needed : IsNeeded e (level_of (length p.ballots) cert.claim) cert.tree =
+      subst (λ n. IsNeeded e n cert.tree) level_here (subst (IsNeeded e low) same_tree found.needed) in
+      let shallow : height cert.tree ≤ MOST_DEPTH = subst (λ t. height t ≤ MOST_DEPTH) same_tree found.shallow in
+      let small : size cert.tree ≤ budget = subst (λ t. size t ≤ budget) same_tree found.within in
+      let lines = tree_lines e (level_of (length p.ballots) cert.claim) (level_of (length p.ballots) cert.claim) cert.tree election proof needed
+      (subst AreNarrow same_tree found.narrow) shallow in
+      let text = printable p cert election parts.candidates parts.ballots (claim_fits cert.claim body_here) (body_fits cert.claim body_here) lines shallow (omega (arith, small, few)) in
+      let valid : IsValidCert p cert = record {
+        head = (parts.candidates, parts.ballots);
+        reported = election.reported;
+        alteration = alters cert.claim body_here;
+        claim = holds cert.claim body_here;
+        shape = shape_of e (level_of (length p.ballots) cert.claim) cert.tree (without_limits goals.Root) proof;
+        cuts = cuts_of e (level_of (length p.ballots) cert.claim) cert.tree (without_limits goals.Root) proof;
+        numbers = ordered cert.claim body_here;
+      } in
+      record {
+        found = record {
+          rule_is = parts.rule;
+          candidates = parts.candidates;
+          ballots = parts.ballots;
+          reported = subst (λ r. IsReported r p cert.reported) parts.rule election.reported;
+          valid = valid;
+          claim = claim_is_true p cert election.poll text valid;
+          nodes = small;
+          tight = subst (IsTight e) same_tree found.tight;
+          needed = needed;
+          end = subst (EndsAs budget p cert) same_claim end;
+          pairs = λ decided. subst (EndsByPairs budget p cert) same_claim (pairs decided);
+        };
+        printable = text;
+      }
 
-  pub fixed_found : race.roll.now.c ≡ 1 → puts ≡ [] → tree ≡ split_for []
-      → IsCertOf race.rule 145 race.roll.now (of_claim Fixed Nothing) × IsPrintable (of_claim Fixed Nothing)
-  fixed_found alone none grown = fixed_made race (of_claim Fixed Nothing) is own solved (head_of Fixed Nothing) alone refl refl none grown
+  -- ---- what is transported from the race
 
-  pub margin_found : (g l k : ℕ) (goal : Goal) (changes : List (ℕ × List ℕ)) → 2 ≤ race.roll.now.c → IsStartWitness (election_of race) goal changes
-      → IsMetBy (election_of race) goal changes → goal ≡ goals.Pair g l → k ≡ length changes → pairs_of puts ≡ changes → tree ≡ tree_for race.roots k
-      → IsCertOf race.rule 145 race.roll.now (of_claim (Margin k) (Some (Pair g l))) × IsPrintable (of_claim (Margin k) (Some (Pair g l)))
-  margin_found g l k goal changes others start met pair count made grown =
-      margin_made race (of_claim (Margin k) (Some (Pair g l))) is own solved (head_of (Margin k) (Some (Pair g l))) g l goal changes others start met pair
-      (ap Margin count) refl made (grown ∙ ap (tree_for race.roots) count)
+  tree_here : (low : ℕ) → IsTreeOf (election_of race) budget low tree → IsTreeOf e budget low tree
+  tree_here low found = subst (λ f. IsTreeOf f budget low tree) same found
+
+  ended_here : (low : ℕ) (upper : Option ℕ) (ending : Ending) → IsEnd (problem_of race upper budget) tree low ending → IsEnd (search_by p cert upper budget) cert.tree low ending
+  ended_here low upper ending end =
+      subst (λ t. IsEnd (search_by p cert upper budget) t low ending) (sym parts.tree_is)
+      (subst (λ f. IsEnd (record { election = f; upper = upper; budget = budget }) tree low ending) same end)
+
+  decided_here : IsDecidedByPairs race.rule cert.reported → IsDecidedByPairs race.rule race.reported
+  decided_here decided = subst (IsDecidedByPairs race.rule) parts.reported decided
+
+  -- ---- nobody else stands
+
+  pub fixed_made : (low : ℕ) → claim ≡ Fixed → cert.goal ≡ Nothing → cert.puts ≡ [] → p.c ≡ 1 → IsTreeOf (election_of race) budget low tree
+      → IsEnd (problem_of race Nothing budget) tree low ends.Nothing → IsMade race budget cert
+  fixed_made low fixed goal puts alone found end =
+      let top : low ≡ length p.ballots + 1 = end.1 in
+      let is_fixed : IsFixedCert budget p cert = record {
+        alone = alone;
+        end = subst (λ n. IsEnd (search_by p cert Nothing budget) cert.tree n ends.Nothing) top (ended_here low Nothing ends.Nothing end);
+        goal = goal;
+        puts = puts;
+      } in
+      made low (top ∙ ap (level_of (length p.ballots)) (sym fixed)) (tree_here low found) (subst (HasBody e cert) (sym fixed) (goal, puts))
+      (subst (EndsAs budget p cert) (sym fixed) is_fixed) (λ decided. subst (EndsByPairs budget p cert) (sym fixed) is_fixed)
+
+  -- ---- somebody else does
+
+  module _ (w : Witness) (begun : IsBegun race (Some w)) (low : ℕ) (found : IsTreeOf (election_of race) budget low tree) where
+    abbrev u : ℕ
+    u = length w.changes
+
+    abbrev problem : Problem
+    problem = problem_of race (Some u) budget
+
+    limits : IsWithin problem u low
+    limits = within race is own budget w tree low begun found.proof
+
+    start_of : IsStartOf e u
+    start_of = record { others = begun.0; number = subst (λ f. IsStartNumber f u) same (start_number (election_of race) w.goal w.changes is.election begun.1 begun.2) }
+
+    from_start : HasTurn w cert → IsFromStart p cert
+    from_start turn = record {
+      goal = w.goal;
+      named = turn.goal;
+      start = subst (IsStart e w.goal) (sym turn.puts) (subst (λ f. IsStart f w.goal w.changes) same begun.1);
+    }
+
+    turned : (v : Witness) (k : ℕ) → HasTurn v cert → length v.changes ≡ k → IsMetBy (election_of race) v.goal v.changes → IsTurned e cert k
+    turned v k turn count met = record {
+      goal = v.goal;
+      named = turn.goal;
+      met = subst (IsMetBy e v.goal) (sym turn.puts) (subst (λ f. IsMetBy f v.goal v.changes) same met);
+      count = sym (length-map cert.puts (λ (one : Put). (one.number, one.ballot))) ∙ ap length turn.puts ∙ count;
+    }
+
+    some_is : (a b : ℕ) → Some a ≡ Some b → a ≡ b
+    some_is a b same = cc
+
+    pub met_made : claim ≡ Margin low → HasTurn w cert → IsEnd problem tree low ends.Met → IsMade race budget cert
+    met_made margin turn end =
+        let count : u ≡ low = some_is u low end.1 in
+        let is_met : IsMetCert budget p cert low = record {
+          known = subst (IsStartOf e) count start_of;
+          end = subst (λ n. IsEnd (search_by p cert (Some n) budget) cert.tree low ends.Met) count (ended_here low (Some u) ends.Met end);
+          turn = from_start turn;
+        } in
+        made low (ap (level_of (length p.ballots)) (sym margin)) (tree_here low found) (subst (HasBody e cert) (sym margin) (turned w low turn count begun.2))
+        (subst (EndsAs budget p cert) (sym margin) (inl is_met)) (λ decided. subst (EndsByPairs budget p cert) (sym margin) is_met)
+
+    pub point_made : (v : Witness) → claim ≡ Margin low → HasTurn v cert → IsFromPoint problem tree low v → IsMade race budget cert
+    point_made v margin turn from =
+        let less = fewer problem u low refl limits from.at.unmet in
+        let point : IsPointCert budget p cert low = record {
+          start = u;
+          known = start_of;
+          fewer = less;
+          witness = v;
+          end = subst (λ t. IsFromPoint (search_by p cert (Some u) budget) t low v) (sym parts.tree_is)
+              (subst (λ f. IsFromPoint (record { election = f; upper = Some u; budget = budget }) tree low v) same from);
+          named = turn.goal;
+          puts = turn.puts;
+        } in
+        made low (ap (level_of (length p.ballots)) (sym margin)) (tree_here low found) (subst (HasBody e cert) (sym margin) (turned v low turn from.count from.met))
+        (subst (EndsAs budget p cert) (sym margin) (inr point))
+        (λ decided. absurd (at_no_point problem w.goal w.changes tree low is.election
+            (own_are_pairs race.rule p.c race.reported race.roots (decided_here decided) own) (begun.1.pairs (decided_here decided)) limits.few less found.needed found.tight from.q from.at))
+
+    pub stopped_made : (stop : Stop) (ending : Ending) → claim ≡ Bounds low u stop → 1 ≤ budget → StopsAt budget stop ending → HasTurn w cert
+        → (IsEnd problem tree low ends.Budget × (ending ≡ ends.Budget)) ⊎ (IsEnd problem tree low ends.Depth × (ending ≡ ends.Depth)) → IsMade race budget cert
+    stopped_made stop ending bounds some stops_at turn end =
+        let unmet : Some u ≡ Some low → ⊥ = elim end [
+          | inl (on, room, here) ↦ on.unmet
+          | inr (on, room, deep, here) ↦ on.unmet
+        ] in
+        let less = fewer problem u low refl limits unmet in
+        let ended : IsEnd (search_by p cert (Some u) budget) cert.tree low ending = elim end [
+          | inl at ↦ ?
+          | inr at ↦ ?
+        ] in
+        let stopped : IsStoppedCert budget p cert low u stop = record {
+          known = start_of;
+          ending = ending;
+          stops = stops_at;
+          end = ended;
+          turn = from_start turn;
+        } in
+        made low (ap (level_of (length p.ballots)) (sym bounds)) (tree_here low found) (subst (HasBody e cert) (sym bounds) (turned w u turn refl begun.2, less, ?))
+        (subst (EndsAs budget p cert) (sym bounds) stopped) (λ decided. subst (EndsByPairs budget p cert) (sym bounds) ?)

@@ -1,8 +1,8 @@
--- Certificates of contests that are decided by pairs are within the limits of their text.
-use Rattle.std.proofs.Common.{ℕ, zero, suc, List, [], ◌∷◌, ◌++◌, Some, None, Option, ◌≡◌, ◌<◌, ◌≤◌, ◌+◌, ◌∙◌, length, map, take, slice_get, All, replicate, sym, refl, ap, subst, arith}
+-- Certificates are within the limits of their text.
+use Rattle.std.proofs.Common.{ℕ, zero, suc, List, [], ◌∷◌, ◌++◌, Some, None, Option, ◌≡◌, ◌<◌, ◌≤◌, ◌+◌, ◌∙◌, length, map, take, slice_get, All, get_or, sym, refl, ap, subst, arith}
 use Rattle.std.specs.Prelude.{option_map}
 use Rattle.std.specs.List.{range_with_len}
-use Rattle.std.proofs.lemmas.List.{length-map, map-append, replicate_more, take_more}
+use Rattle.std.proofs.lemmas.List.{get_or_default, length-map, map-append, take_more}
 use Rattle.std.proofs.lemmas.Option.{get_or_from_slice_get, slice_get_within}
 use Rattle.std.proofs.lemmas.List.FromFn.{length-range_with_len}
 use Rattle.alteration_model.specs.Faults.{pairs_of}
@@ -17,28 +17,24 @@ use Rattle.ballot_form.specs.declared.outcome.Outcome.{Outcome}
 use Rattle.ballot_form.specs.declared.outcome.Outcome.TheVariants.{Winner, NoWinner, Seats}
 use Rattle.ballot_form.specs.declared.rule.Rule.{Rule}
 use Rattle.ballot_form.specs.declared.rule.Rule.TheVariants.{Plurality, Borda, Condorcet, Dhondt, Irv}
-use Rattle.bound_tree.specs.Growth.{cuts_of}
-use Rattle.bound_tree.specs.Lines.{CutWith, SplitInto, lines_of}
+use Rattle.bound_tree.specs.Lines.{lines_of}
 use Rattle.bound_tree.specs.Nodes.{height, size}
-use Rattle.bound_tree.specs.Plain.{Plain, Split, Cut}
-use Rattle.bound_tree.specs.declared.bound.TheConstants.{MOST_DEPTH}
-use Rattle.bound_tree.specs.declared.tree.Tree.TheVariants as program
-use Rattle.bound_tree.proofs.Laws.{highest_cuts, size_cuts, split_of_cuts}
-use Rattle.bound_tree.proofs.LineLaws.{lines_split}
-use Rattle.cert_text.specs.CertText.{BodyFits, ClaimFits, IsPrintable, LineFits, OutcomeFits, PutFits, TurnFits}
+use Rattle.bound_tree.specs.declared.bound.TheConstants.{MOST_DEPTH, MOST_NODES}
+use Rattle.cert_text.specs.CertText.{BodyFits, ClaimFits, GoalFits, IsPrintable, LineFits, OutcomeFits, PutFits, TurnFits}
 use Rattle.cert_text.specs.declared.cert.Cert.{Cert}
-use Rattle.cert_text.specs.declared.cert.GoalText.TheVariants.{Pair}
-use Rattle.cert_text.specs.declared.limits.TheConstants.{GREATEST_MULTIPLIER}
+use Rattle.cert_text.specs.declared.cert.GoalText.{GoalText}
+use Rattle.cert_text.specs.declared.cert.GoalText.TheVariants.{Cover, Order, Pair}
+use Rattle.cert_text.specs.declared.limits.TheConstants.{GREATEST_CANDIDATE}
 use Rattle.dhondt_seats.specs.Seats.{seats_of, votes_of}
+use Rattle.goal_rows.specs.Elections.{Election}
+use Rattle.goal_rows.specs.Goals.{IsComplete, IsElection, IsRootOf}
 use Rattle.goal_rows.specs.Outcomes.{IsReported}
 use Rattle.goal_rows.specs.declared.goals.Goal.{Goal}
+use Rattle.goal_rows.specs.declared.goals.Goal.TheVariants as goals
 use Rattle.goal_rows.proofs.PairPoints.{few_seats}
-use Rattle.margin_solve.specs.Certificates.{HasMargins, split_for, tree_for}
-
--- ---- built one by one
-
-pub one_list_more : (n : ℕ) (lists : List (List ℕ)) → lists ≡ replicate n (1 ∷ []) → lists ++ (1 ∷ []) ∷ [] ≡ replicate (n + 1) (1 ∷ [])
-one_list_more n lists is = rw is (replicate_more n (1 ∷ []))
+use Rattle.margin_check.specs.Validity.{election_by, named_goal}
+use Rattle.witness_build.specs.Witnesses.{IsMetBy}
+use Rattle.margin_solve.proofs.Roots.{last_below}
 
 -- one replacement more
 pub put_more : (changes : List (ℕ × List ℕ)) (i number : ℕ) (ballot copy : List ℕ) (puts : List Put)
@@ -68,10 +64,12 @@ all_made f most [] few k d lt = absurd (omega arith)
 all_made f most (x ∷ xs) few zero d lt = few x
 all_made f most (x ∷ xs) few (suc k) d lt = all_made f most xs few k d (omega arith)
 
-outcome_fits : (rule : Rule) (p : Poll) (o : Outcome) → HasMargins rule → IsRule rule → IsPoll p → IsReported rule p o → OutcomeFits rule p.c o
-outcome_fits Plurality p (Winner x) solved lawful poll is = omega (arith, is.greatest.stands, poll.most)
-outcome_fits Borda p (Winner x) solved lawful poll is = omega (arith, is.greatest.stands, poll.most)
-outcome_fits (Dhondt s) p (Seats shares) solved lawful poll is =
+outcome_fits : (rule : Rule) (p : Poll) (o : Outcome) → IsRule rule → IsPoll p → IsReported rule p o → OutcomeFits rule p.c o
+outcome_fits Plurality p (Winner x) lawful poll is = omega (arith, is.greatest.stands, poll.most)
+outcome_fits Borda p (Winner x) lawful poll is = omega (arith, is.greatest.stands, poll.most)
+outcome_fits Condorcet p (Winner x) lawful poll is = let stands = is.stands in omega (arith, stands, poll.most)
+outcome_fits Condorcet p NoWinner lawful poll is = tt
+outcome_fits (Dhondt s) p (Seats shares) lawful poll is =
     let votes = votes_of p in
     let each = all_made (seats_of votes s) MOST_SEATS (range_with_len 0 (length votes)) (λ a. omega (arith, few_seats votes s a, lawful.1)) in
     let many = length-map (range_with_len 0 (length votes)) (seats_of votes s) in
@@ -79,14 +77,16 @@ outcome_fits (Dhondt s) p (Seats shares) solved lawful poll is =
     let made = length-map (range_with_len 0 p.c) (λ a. first_count p.ballots a) in
     let voters = length-range_with_len 0 p.c in
     rw is (omega (arith, many, one_each, made, voters), each)
-outcome_fits Plurality p NoWinner solved lawful poll is = absurd is
-outcome_fits Plurality p (Seats shares) solved lawful poll is = absurd is
-outcome_fits Borda p NoWinner solved lawful poll is = absurd is
-outcome_fits Borda p (Seats shares) solved lawful poll is = absurd is
-outcome_fits (Dhondt s) p (Winner x) solved lawful poll is = absurd is
-outcome_fits (Dhondt s) p NoWinner solved lawful poll is = absurd is
-outcome_fits Condorcet p o solved lawful poll is = absurd solved
-outcome_fits Irv p o solved lawful poll is = absurd solved
+outcome_fits Irv p (Winner x) lawful poll is = let below = last_below p x is in omega (arith, below, poll.most)
+outcome_fits Plurality p NoWinner lawful poll is = absurd is
+outcome_fits Plurality p (Seats shares) lawful poll is = absurd is
+outcome_fits Borda p NoWinner lawful poll is = absurd is
+outcome_fits Borda p (Seats shares) lawful poll is = absurd is
+outcome_fits Condorcet p (Seats shares) lawful poll is = absurd is
+outcome_fits (Dhondt s) p (Winner x) lawful poll is = absurd is
+outcome_fits (Dhondt s) p NoWinner lawful poll is = absurd is
+outcome_fits Irv p NoWinner lawful poll is = absurd is
+outcome_fits Irv p (Seats shares) lawful poll is = absurd is
 
 -- ---- the replacements
 
@@ -100,86 +100,46 @@ puts_few p puts poll is =
     let put : Put → ℕ × List ℕ = λ one. (one.number, one.ballot) in
     omega (arith, no_longer p (pairs_of puts) is, length-map puts put)
 
--- ---- the tree
+-- ---- the goal
 
-abbrev ones : List Goal → List (List ℕ)
-ones roots = map (λ goal. 1 ∷ []) roots
+goal_is : {A : Type 0} (x y : A) → Some x ≡ Some y → x ≡ y
+goal_is x y is = cc
 
-lines_are : (lists : List (List ℕ)) → lines_of (Split (cuts_of lists)) ≡ SplitInto (length lists) ∷ map CutWith lists
-lines_are lists = sym (ap lines_of (split_of_cuts lists (map program.Cut lists) refl)) ∙ lines_split lists (map program.Cut lists) refl
+-- a complete goal's numbers are those of candidates
+goal_fits : (e : Election) (text : GoalText) (goal : Goal) → IsElection e → named_goal (Some text) ≡ Some goal → IsComplete e goal → GoalFits e.poll.c text
+goal_fits e (Order order) goal is named complete =
+    let whole : IsComplete e (goals.Suffix order) = subst (IsComplete e) (sym (goal_is (goals.Suffix order) goal named)) complete in
+    (whole.0.long, λ k d lt. (let long = whole.0.long in let below = whole.0.below k (omega (arith, lt, long)) in let at = get_or_default order k d 0 lt in let most = is.poll.most in omega (arith, below, at, most)))
+goal_fits e (Pair g l) goal is named complete =
+    let there : IsComplete e (goals.Pair g l) = subst (IsComplete e) (sym (goal_is (goals.Pair g l) goal named)) complete in
+    let root : IsRootOf e (goals.Pair g l) = subst (IsRootOf e) there.2 (is.roots.each there.0 (goals.Pair g l) there.1) in
+    let most = is.poll.most in
+    (omega (arith, root.1, most), omega (arith, root.2, most))
+goal_fits e (Cover x) goal is named complete =
+    let there : IsComplete e (goals.Cover x) = subst (IsComplete e) (sym (goal_is (goals.Cover x) goal named)) complete in
+    let root : IsRootOf e (goals.Cover x) = subst (IsRootOf e) there.2 (is.roots.each there.0 (goals.Cover x) there.1) in
+    let most = is.poll.most in
+    omega (arith, root.1, most)
 
-one_fits : LineFits (CutWith (1 ∷ []))
-one_fits = (omega arith, all)
-  where
-    all : All (λ m. m ≤ GREATEST_MULTIPLIER) (1 ∷ [])
-    all zero d lt = omega arith
-    all (suc k) d lt = absurd (omega arith)
-
-cuts_fit : (roots : List Goal) → All LineFits (map CutWith (ones roots))
-cuts_fit [] k d lt = absurd (omega arith)
-cuts_fit (goal ∷ roots) zero d lt = one_fits
-cuts_fit (goal ∷ roots) (suc k) d lt = cuts_fit roots k d (omega arith)
-
--- the tree is within the limits of trees, and small
-pub record TreeFits (tree : Plain) : Type 0 where
-  pub lines : All LineFits (lines_of tree)
-  pub low : height tree ≤ MOST_DEPTH
-  pub small : size tree ≤ 145
-
-leaf_fits : TreeFits (Cut [])
-leaf_fits = record { lines = all; low = omega arith; small = omega arith }
-  where
-    all : All LineFits (lines_of (Cut []))
-    all zero d lt = (omega arith, λ k e within. absurd (omega arith))
-    all (suc k) d lt = absurd (omega arith)
-
-pub split_fits : (roots : List Goal) → length roots ≤ 144 → TreeFits (split_for roots)
-split_fits roots few = record {
-  lines = subst (All LineFits) (sym (lines_are (ones roots))) all;
-  low = omega (arith, highest_cuts (ones roots));
-  small = omega (arith, size_cuts (ones roots), many, few);
-}
-  where
-    many : length (ones roots) ≡ length roots
-    many = length-map roots (λ goal. 1 ∷ [])
-
-    all : All LineFits (SplitInto (length (ones roots)) ∷ map CutWith (ones roots))
-    all zero d lt = omega (arith, many, few)
-    all (suc k) d lt = cuts_fit roots k d (omega arith)
-
-pub tree_fits : (roots : List Goal) (k : ℕ) → length roots ≤ 144 → TreeFits (tree_for roots k)
-tree_fits roots zero few = leaf_fits
-tree_fits roots (suc k) few = split_fits roots few
+-- a goal and the replacements that meet it
+pub turn_fits : (e : Election) (k : ℕ) (text : Option GoalText) (goal : Goal) (puts : List Put) → IsElection e → named_goal text ≡ Some goal → IsMetBy e goal (pairs_of puts)
+    → length puts ≡ k → TurnFits e.poll.c k text puts
+turn_fits e k None goal puts is named met many = absurd (let no = named in cc)
+turn_fits e k (Some text) goal puts is named met many =
+    (goal_fits e text goal is named met.complete, many, puts_fit e.poll.c 1 (length e.poll.ballots) puts is.poll.most is.poll.few met.alteration)
 
 -- ---- certificates
 
--- what is known of a certificate before its claim
-pub record HeadIs (p : Poll) (cert : Cert) : Type 0 where
-  pub poll : IsPoll p
-  pub lawful : IsRule cert.rule
-  pub solved : HasMargins cert.rule
-  pub candidates : cert.c ≡ p.c
-  pub ballots : cert.ballots ≡ length p.ballots
-  pub reported : IsReported cert.rule p cert.reported
-
--- a certificate with this head, a claim and body that fit, and a tree that does
-pub printable : (p : Poll) (cert : Cert) → HeadIs p cert → ClaimFits cert.claim → BodyFits p.c cert.claim cert.goal cert.puts → TreeFits cert.tree → IsPrintable cert
-printable p cert head claim body tree = record {
-  rule = head.lawful;
-  sizes = (omega (arith, head.poll.some, head.candidates), omega (arith, head.poll.most, head.candidates), omega (arith, head.poll.few, head.ballots));
-  reported = subst (λ c. OutcomeFits cert.rule c cert.reported) (sym head.candidates) (outcome_fits cert.rule p cert.reported head.solved head.lawful head.poll head.reported);
+-- a certificate with the head of its contest, a claim and body that fit, and a tree that does
+pub printable : (p : Poll) (cert : Cert) → IsElection (election_by p cert) → cert.c ≡ p.c → cert.ballots ≡ length p.ballots → ClaimFits cert.claim
+    → BodyFits p.c cert.claim cert.goal cert.puts → All LineFits (lines_of cert.tree) → height cert.tree ≤ MOST_DEPTH → size cert.tree ≤ MOST_NODES → IsPrintable cert
+printable p cert is candidates ballots claim body lines low few = record {
+  rule = is.lawful;
+  sizes = (omega (arith, is.poll.some, candidates), omega (arith, is.poll.most, candidates), omega (arith, is.poll.few, ballots));
+  reported = subst (λ c. OutcomeFits cert.rule c cert.reported) (sym candidates) (outcome_fits cert.rule p cert.reported is.lawful is.poll is.reported);
   claim = claim;
-  body = subst (λ c. BodyFits c cert.claim cert.goal cert.puts) (sym head.candidates) body;
-  lines = tree.lines;
-  depth = tree.low;
-  nodes = omega (arith, tree.small);
+  body = subst (λ c. BodyFits c cert.claim cert.goal cert.puts) (sym candidates) body;
+  lines = lines;
+  depth = low;
+  nodes = few;
 }
-
--- a pair's body
-pub pair_body : (p : Poll) (g l k : ℕ) (puts : List Put) → IsPoll p → g < p.c → l < p.c → IsAlteration p (pairs_of puts) → length puts ≡ k
-    → TurnFits p.c k (Some (Pair g l)) puts
-pair_body p g l k puts poll below_g below_l ok many = (
-  (omega (arith, below_g, poll.most), omega (arith, below_l, poll.most)),
-  many,
-  puts_fit p.c 1 (length p.ballots) puts poll.most poll.few ok,
-)

@@ -55,15 +55,21 @@ chosen_alone p none one = none 0 (record {
   chosen = λ y within other. absurd (other (omega (arith, one, within)));
 })
 
+-- the winner under instant runoff stands
+pub last_below : (p : Poll) (x : ℕ) → IsReported Irv p (Winner x) → x < p.c
+last_below p x is =
+    let long = is.1.legal.whole.long in
+    let last = is.3 in
+    let below = is.1.legal.whole.below is.2 (omega (arith, long, last)) in
+    let same = is.4 in
+    omega (arith, below, same)
+
 alone_by : (rule : Rule) (p : Poll) (o : Outcome) → IsReported rule p o → p.c ≡ 1 → root_goals rule 1 o ≡ []
 alone_by Plurality p (Winner x) is one = none_beside (λ j. Pair j x) x (omega (arith, one, is.greatest.stands))
 alone_by Borda p (Winner x) is one = none_beside (λ j. Pair j x) x (omega (arith, one, is.greatest.stands))
 alone_by Condorcet p (Winner x) is one = none_beside (λ j. Pair j x) x (let stands = is.stands in omega (arith, one, stands))
 alone_by (Dhondt s) p (Seats shares) is one = refl
-alone_by Irv p (Winner x) is one =
-    let long = is.1.legal.whole.long in
-    let below = is.1.legal.whole.below is.2 (let last = is.3 in omega (arith, long, last)) in
-    none_beside (λ y. Suffix (y ∷ [])) x (let same = is.4 in omega (arith, below, same, one))
+alone_by Irv p (Winner x) is one = none_beside (λ y. Suffix (y ∷ [])) x (let below = last_below p x is in omega (arith, below, one))
 alone_by Condorcet p NoWinner is one = absurd (chosen_alone p is one)
 alone_by Irv p NoWinner is one = absurd is
 alone_by Irv p (Seats shares) is one = absurd is
