@@ -9,7 +9,7 @@ use Rattle.ballot_form.specs.Ballots.{Poll}
 use Rattle.bound_tree.specs.Nodes.{height, size}
 use Rattle.bound_tree.specs.Plain.{Plain}
 use Rattle.bound_tree.specs.declared.bound.TheConstants.{MOST_DEPTH}
-use Rattle.cert_text.specs.CertText.{BodyFits, ClaimFits}
+use Rattle.cert_text.specs.CertText.{BodyFits, ClaimFits, StopFits}
 use Rattle.cert_text.specs.declared.cert.Cert.{Cert}
 use Rattle.cert_text.specs.declared.cert.Claim.{Claim}
 use Rattle.cert_text.specs.declared.cert.Claim.TheVariants.{Margin, Fixed, Bounds}
@@ -67,7 +67,7 @@ record IsTurned (e : Election) (cert : Cert) (k : ℕ) : Type 0 where
 abbrev HasBody : Election → Cert → Claim → Type 0
 HasBody e cert Fixed = (cert.goal ≡ Nothing) × (cert.puts ≡ [])
 HasBody e cert (Margin k) = IsTurned e cert k
-HasBody e cert (Bounds low up stop) = IsTurned e cert up × (low < up) × ((nodes : ℕ) → stop ≡ stops.Budget nodes → (1 ≤ nodes) × (nodes ≤ MOST_BUDGET))
+HasBody e cert (Bounds low up stop) = IsTurned e cert up × (low < up) × StopFits stop
 
 module _ (race : Race) (is : IsRace race) (own : race.roots ≡ root_goals race.rule race.roll.now.c race.reported) (budget : ℕ) (few : budget ≤ MOST_BUDGET)
     (claim : Claim) (tree : Plain) (cert : Cert) (parts : HasParts race claim tree cert) where
@@ -109,10 +109,6 @@ module _ (race : Race) (is : IsRace race) (own : race.roots ≡ root_goals race.
       let count = turned.count in
       omega (arith, longest, same_length, count)
 
-  stop_fits : (stop : Stop) → ((nodes : ℕ) → stop ≡ stops.Budget nodes → (1 ≤ nodes) × (nodes ≤ MOST_BUDGET)) → StopFits stop
-  stop_fits (stops.Budget nodes) so = so nodes refl
-  stop_fits stops.Depth so = tt
-
   claim_fits : (c : Claim) → HasBody e cert c → ClaimFits c
   claim_fits Fixed body = tt
   claim_fits (Margin k) body = let most = few_puts k body in let poll = election.poll.few in omega (arith, most, poll)
@@ -120,7 +116,7 @@ module _ (race : Race) (is : IsRace race) (own : race.roots ≡ root_goals race.
       let most = few_puts up body.0 in
       let poll = election.poll.few in
       let less = body.1 in
-      (omega (arith, most, poll, less), omega (arith, most, poll), stop_fits stop body.2)
+      (omega (arith, most, poll, less), omega (arith, most, poll), body.2)
 
   body_fits : (c : Claim) → HasBody e cert c → BodyFits p.c c cert.goal cert.puts
   body_fits Fixed body = body
@@ -260,24 +256,35 @@ module _ (race : Race) (is : IsRace race) (own : race.roots ≡ root_goals race.
         (λ decided. absurd (at_no_point problem w.goal w.changes tree low is.election
             (own_are_pairs race.rule p.c race.reported race.roots (decided_here decided) own) (begun.1.pairs (decided_here decided)) limits.few less found.needed found.tight from.q from.at))
 
-    pub stopped_made : (stop : Stop) (ending : Ending) → claim ≡ Bounds low u stop → 1 ≤ budget → StopsAt budget stop ending → HasTurn w cert
-        → (IsEnd problem tree low ends.Budget × (ending ≡ ends.Budget)) ⊎ (IsEnd problem tree low ends.Depth × (ending ≡ ends.Depth)) → IsMade race budget cert
-    stopped_made stop ending bounds some stops_at turn end =
-        let unmet : Some u ≡ Some low → ⊥ = elim end [
-          | inl (on, room, here) ↦ on.unmet
-          | inr (on, room, deep, here) ↦ on.unmet
-        ] in
-        let less = fewer problem u low refl limits unmet in
-        let ended : IsEnd (search_by p cert (Some u) budget) cert.tree low ending = elim end [
-          | inl at ↦ ?
-          | inr at ↦ ?
-        ] in
+    -- the search went on where it stopped
+    stopped_on : (stop : Stop) (ending : Ending) → StopsAt budget stop ending → IsEnd problem tree low ending → IsEnd problem tree low ends.Budget ⊎ IsEnd problem tree low ends.Depth
+    stopped_on (stops.Budget nodes) ending stops_at end = inl (subst (IsEnd problem tree low) stops_at.1 end)
+    stopped_on stops.Depth ending stops_at end = inr (subst (IsEnd problem tree low) stops_at end)
+
+    unmet : IsEnd problem tree low ends.Budget ⊎ IsEnd problem tree low ends.Depth → Some u ≡ Some low → ⊥
+    unmet (inl on) = on.0.unmet
+    unmet (inr on) = on.0.unmet
+
+    stop_fits : (stop : Stop) (ending : Ending) → 1 ≤ budget → StopsAt budget stop ending → StopFits stop
+    stop_fits (stops.Budget nodes) ending some stops_at = let same = stops_at.0 in (omega (arith, some, same), omega (arith, few, same))
+    stop_fits stops.Depth ending some stops_at = tt
+
+    pub stopped_made : (stop : Stop) (ending : Ending) → 1 ≤ budget → claim ≡ Bounds low u stop → HasTurn w cert → StopsAt budget stop ending → IsEnd problem tree low ending → IsMade race budget cert
+    stopped_made stop ending some bounds turn stops_at end =
+        let on = stopped_on stop ending stops_at end in
+        let less = fewer problem u low refl limits (unmet on) in
         let stopped : IsStoppedCert budget p cert low u stop = record {
           known = start_of;
           ending = ending;
           stops = stops_at;
-          end = ended;
+          end = ended_here low (Some u) ending end;
           turn = from_start turn;
         } in
-        made low (ap (level_of (length p.ballots)) (sym bounds)) (tree_here low found) (subst (HasBody e cert) (sym bounds) (turned w u turn refl begun.2, less, ?))
-        (subst (EndsAs budget p cert) (sym bounds) stopped) (λ decided. subst (EndsByPairs budget p cert) (sym bounds) ?)
+        made low (ap (level_of (length p.ballots)) (sym bounds)) (tree_here low found)
+        (subst (HasBody e cert) (sym bounds) (turned w u turn refl begun.2, less, stop_fits stop ending some stops_at))
+        (subst (EndsAs budget p cert) (sym bounds) stopped)
+        (λ decided. subst (EndsByPairs budget p cert) (sym bounds)
+            (let room = no_room problem w.goal w.changes tree low is.election (own_are_pairs race.rule p.c race.reported race.roots (decided_here decided) own)
+            (begun.1.pairs (decided_here decided)) limits.few less found.needed found.tight on in
+            let pairs = pairs_few race.rule p.c race.reported race.roots is.election.poll.some own (decided_here decided) in
+            omega (arith, room, pairs)))
