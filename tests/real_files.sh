@@ -218,6 +218,22 @@ margins_of_pairs() {
     valid "seats of a whole election" whole.cert 'rule dhondt 7\nmargin 14286' whole.csv dhondt --seats 7
 }
 
+margins_by_search() {
+    valid "a cycle of three" cycle.cert 'rule condorcet\nmargin 1' cycle.csv condorcet
+    valid "instant runoff of twelve" runoff.cert 'rule irv\nmargin 1' runoff.csv irv
+    valid "with just as many nodes" runoff.cert 'rule irv\nmargin 1' runoff.csv irv --budget 9
+    printf '%s\n' "movcert 1" "rule irv" "size 3 12" "reported 0" "bounds 0 2 budget 1" "goal order 0 2 1" "put 1 1" "put 2 1" \
+        "cut" >stopped.cert
+    cp stopped.cert want.out
+    : >want.err
+    expect "a budget of one" 1 margin irv runoff.csv --budget 1
+    printf 'VALID\nrule irv\nbounds 0 2 budget 1\n' >valid.text
+    prints "a budget of one, checked" check runoff.csv stopped.cert <valid.text
+    printf 'ballots,A\n7,A\n' >alone.csv
+    printf '%s\n' "movcert 1" "rule irv" "size 1 7" "reported 0" "fixed" "split 0" >alone.cert
+    valid "one candidate alone" alone.cert 'rule irv\nfixed' alone.csv irv
+}
+
 tallies_by_scores() {
     prints "tally plurality" tally plurality five-two.csv <<'END'
 rule plurality
@@ -366,8 +382,7 @@ word_faults() {
     word_fault "wrong arguments" show $'\xff.csv'
     word_fault "unknown rule" margin stv five-two.csv
     word_fault "unknown rule" tally stv five-two.csv --seats 0
-    word_fault "unknown rule" margin irv five-two.csv
-    word_fault "unknown rule" margin condorcet five-two.csv --seats x
+    word_fault "unknown rule" margin stv five-two.csv --seats x --budget 0
     word_fault "bad seats" tally dhondt five-two.csv --seats 0
     word_fault "bad seats" tally irv five-two.csv --seats 501
     word_fault "bad seats" tally dhondt five-two.csv --seats 03
@@ -376,6 +391,12 @@ word_faults() {
     word_fault "seats missing" margin dhondt five-two.csv
     word_fault "seats unwanted" tally irv five-two.csv --seats 3
     word_fault "seats unwanted" margin plurality five-two.csv --seats 3
+    word_fault "seats unwanted" margin irv five-two.csv --seats 3 --budget 0
+    word_fault "wrong arguments" margin irv five-two.csv --budget 2 --budget 3
+    word_fault "wrong arguments" margin dhondt five-two.csv --budget 2 --seats 3
+    word_fault "bad budget" margin irv five-two.csv --budget 40001
+    word_fault "bad budget" margin dhondt five-two.csv --seats 3 --budget 0
+    word_fault "bad budget" margin plurality five-two.csv --budget 01
 }
 
 # ballot_fault RECORD TEXT FILE: what is said of a ballot file of these bytes, written as printf wants them.
@@ -693,6 +714,7 @@ many_kinds() {
 
 margins
 margins_of_pairs
+margins_by_search
 tallies_by_scores
 other_tallies
 forms_of_ballot_files
