@@ -85,11 +85,11 @@ first_alone e t low (Branch feature value lower higher) first none needed is = a
 first_alone e t low (Split kids) first none needed is = absurd (by kids (subst (λ (goals : List Goal). IsFirstOf e low (hung_among e kids (spots_below root_spot goals)) first) none is))
   where
     by : (kids : Kids) → IsFirstOf e low (hung_among e kids []) first → ⊥
-    by trees.None no = no
-    by (More kid kids) no = no
+    by trees.None none_here = none_here
+    by (More kid kids) none_here = none_here
 
 -- the search goes on nowhere
-alone_ends : (p : Problem) (tree : Plain) (low : ℕ) → 1 ≤ p.budget → p.election.roots ≡ [] → IsNeeded p.election low tree → IsEnd p tree low Budget ⊎ IsEnd p tree low Depth → ⊥
+pub alone_ends : (p : Problem) (tree : Plain) (low : ℕ) → 1 ≤ p.budget → p.election.roots ≡ [] → IsNeeded p.election low tree → IsEnd p tree low Budget ⊎ IsEnd p tree low Depth → ⊥
 alone_ends p tree low some none needed (inl (on, room)) =
     let bare = first_alone p.election low low tree on.first none needed on.is_first in
     let growth : searching.growth_of p.election on.first ≡ 0 = ap (λ spot. searching.growth_of p.election (record { spot = spot; multipliers = on.first.multipliers })) bare.spot ∙ ap length none in
@@ -99,7 +99,7 @@ alone_ends p tree low some none needed (inr (on, room, deep)) =
     let depth : searching.depth_of on.first ≡ 1 = ap (λ spot. searching.depth_of (record { spot = spot; multipliers = on.first.multipliers })) bare.spot in
     omega (arith, depth, deep)
 
-alone_at_no_point : (p : Problem) (tree : Plain) (low : ℕ) (q : Values) → p.election.roots ≡ [] → IsNeeded p.election low tree → EndsAtPoint p tree low q → ⊥
+pub alone_at_no_point : (p : Problem) (tree : Plain) (low : ℕ) (q : Values) → p.election.roots ≡ [] → IsNeeded p.election low tree → EndsAtPoint p tree low q → ⊥
 alone_at_no_point p tree low q none needed at =
     let bare = first_alone p.election low low tree at.first none needed at.is_first in
     let complete : has_cover p.election Root ≡ false = subst (λ spot. has_cover p.election spot.node.goal ≡ false) bare.spot at.at_point.complete in
@@ -108,7 +108,7 @@ alone_at_no_point p tree low q none needed at =
 -- ---- where somebody else does
 
 -- what a tree proves is at most what is known, and that is at most all ballots
-record IsWithin (p : Problem) (u low : ℕ) : Type 0 where
+pub record IsWithin (p : Problem) (u low : ℕ) : Type 0 where
   pub most : low ≤ u
   pub few : u ≤ length p.election.poll.ballots
 

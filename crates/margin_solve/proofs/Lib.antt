@@ -4,4 +4,6 @@ pub mod Endings
 pub mod PairTrees
 pub mod PrintedTrees
 pub mod Printing
+pub mod NarrowTrees
 pub mod Made
+pub mod Ended

@@ -4,6 +4,7 @@ use Rattle.std.specs.Prelude.{None as Nothing}
 use Rattle.std.proofs.lemmas.List.{length-map}
 use Rattle.alteration_model.specs.Faults.{pairs_of}
 use Rattle.alteration_model.specs.declared.puts.Put.{Put}
+use Rattle.alteration_model.proofs.Judged.{no_longer}
 use Rattle.ballot_form.specs.Alterations.{IsAlteration, after}
 use Rattle.ballot_form.specs.Ballots.{Poll}
 use Rattle.bound_tree.specs.Nodes.{height, size}
@@ -20,6 +21,7 @@ use Rattle.cert_text.specs.declared.limits.TheConstants.{MOST_BUDGET}
 use Rattle.goal_rows.specs.Elections.{Election}
 use Rattle.goal_rows.specs.Goals.{IsDecidedByPairs, IsElection, root_goals}
 use Rattle.goal_rows.specs.Nodes.{without_limits}
+use Rattle.goal_rows.specs.Outcomes.{IsReported}
 use Rattle.goal_rows.specs.Races.{IsRace, election_of}
 use Rattle.goal_rows.specs.declared.goals.Goal.{Goal}
 use Rattle.goal_rows.specs.declared.goals.Goal.TheVariants as goals
@@ -34,11 +36,11 @@ use Rattle.witness_build.specs.Witnesses.{IsMetBy}
 use Rattle.witness_build.specs.declared.pairs.Witness.{Witness}
 use Rattle.witness_build.proofs.RootPairs.{own_are_pairs}
 use Rattle.witness_build.proofs.StartNumbers.{start_number}
-use Rattle.search_theory.specs.Ends.{Ending, IsEnd, Problem, top_of}
+use Rattle.search_theory.specs.Ends.{Ending, IsEnd, Problem}
 use Rattle.search_theory.specs.Ends as ends
 use Rattle.search_theory.specs.Trees.{IsNeeded, IsTight}
 use Rattle.search_leaves.specs.Found.{IsFromPoint, problem_of}
-use Rattle.margin_solve.specs.Certificates.{EndsAs, EndsByPairs, IsCertOf, IsFixedCert, IsFromStart, IsMetCert, IsPointCert, IsStartOf, IsStoppedCert, StopsAt}
+use Rattle.margin_solve.specs.Certificates.{EndsAs, EndsByPairs, IsCertOf, IsFixedCert, IsFromStart, IsMetCert, IsPointCert, IsStartOf, IsStoppedCert, StopsAt, search_by}
 use Rattle.margin_solve.specs.Made.{HasParts, HasTurn, IsBegun, IsMade, upper_by}
 use Rattle.margin_solve.specs.Numbers.{AreNarrow}
 use Rattle.margin_solve.proofs.Endings.{IsWithin, fewer, within}

@@ -1,7 +1,7 @@
 -- The tree of a search of a contest that is decided by pairs is the root, or the root split into its pairs; and it ends
 -- where the start number is met, but where there is no room for the pairs.
 use Rattle.std.proofs.Common.{◌≡◌, ◌⊎◌, ℕ, zero, suc, ◌+◌, ◌*◌, ◌<◌, ◌≤◌, ◌∙◌, ◌++◌, true, false, List, [], ◌∷◌, All, Some, length, refl, sym, ap, subst, inl, inr, arith}
-use Rattle.std.specs.Prelude.{ℤ, map, slice_index_or}
+use Rattle.std.specs.Prelude.{ℤ, map, slice_index_or, Contains}
 use Rattle.std.proofs.lemmas.Bool.{false≢true}
 use Rattle.std.proofs.lemmas.List.{get_or_default, length-map}
 use Rattle.std.proofs.lemmas.List.Elements.{All-head, All-tail}
@@ -11,24 +11,26 @@ use Rattle.bound_tree.specs.Plain.{Plain, Kids, Split, Branch, Cut, More}
 use Rattle.bound_tree.specs.Plain as trees
 use Rattle.row_program.specs.declared.Limit.{Limit}
 use Rattle.goal_rows.specs.Elections.{Election, Node}
-use Rattle.goal_rows.specs.Goals.{IsElection, IsRootOf, rows_of}
-use Rattle.goal_rows.specs.Nodes.{AreLimits, without_limits}
+use Rattle.goal_rows.specs.Goals.{IsElection, IsReached, IsRootOf}
+use Rattle.goal_rows.specs.Nodes.{IsFeatureOf, without_limits}
 use Rattle.goal_rows.specs.Races.{IsGroundIn}
 use Rattle.goal_rows.specs.declared.goals.Goal.{Goal}
 use Rattle.goal_rows.specs.declared.goals.Goal.TheVariants.{Root, Pair}
 use Rattle.goal_rows.proofs.Ways.{reached_root_goal}
-use Rattle.dual_bound.specs.CutTest.{IsBound}
+use Rattle.dual_bound.specs.CutTest.{Cuts, IsBound}
 use Rattle.dual_bound.proofs.Sound.{one_bound}
-use Rattle.node_bounds.specs.Ceilings.{ground_at}
+use Rattle.node_bounds.specs.Ceilings.{IsCeiling, ground_at}
 use Rattle.node_bounds.proofs.CeilingCuts.{cut_within_ceiling}
+use Rattle.node_bounds.proofs.Inheritance.{no_limits_are}
 use Rattle.witness_build.specs.Witnesses.{IsPair, IsRootPair, IsStartWitness}
-use Rattle.search_theory.specs.Ends.{AllFrom, Budget, Depth, EndsAtPoint, IsEnd, IsFirst, IsFirstOf, Problem}
+use Rattle.search_theory.specs.Ends.{Budget, Depth, EndsAtPoint, IsEnd, IsFirst, IsFirstOf, Problem, cuts_in}
 use Rattle.search_theory.specs.Ends as searching
-use Rattle.search_theory.specs.Branchings.{IsSolid, Values}
+use Rattle.search_theory.specs.Branchings.{Values}
 use Rattle.search_theory.specs.Laws.{EachOf}
-use Rattle.search_theory.specs.Spots.{EveryKid, Hung, Spot, below, has_cover, hung_among, hung_of, root_spot, spots_below}
+use Rattle.search_theory.specs.Spots.{EveryKid, Everywhere, Hung, Spot, below, has_cover, hung_among, hung_of, root_spot, spots_below}
 use Rattle.search_theory.specs.Trees.{IsAnchor, IsNeeded, IsTight, IsTightCut, needed_words, tight_words}
 use Rattle.margin_solve.proofs.Cutting.{short_is_cut}
+use Rattle.margin_solve.proofs.Endings.{IsBareRoot}
 
 -- ---- the cuts of the tree
 
@@ -53,7 +55,7 @@ cut_below : (e : Election) (t : ℕ) (kid : Plain) (goal : Goal) → IsOwnPair e
     → Everywhere e (tight_words e) kid (below root_spot (without_limits goal)) → (ms : List ℕ) × (kid ≡ Cut ms) × IsPairCut e (record { spot = below root_spot (without_limits goal); multipliers = ms })
 cut_below e t (Cut ms) goal own needed tight = (ms, refl, record { goal = goal; own = own; spot = refl; tight = tight })
 cut_below e t (Split kids) goal own needed tight =
-    let covered : has_cover e (Pair own.g own.l) ≡ true = subst (λ at. has_cover e at ≡ true) own.pair needed.0.0 in
+    let covered : has_cover e (Pair own.g own.l) ≡ true = subst (λ at. has_cover e at ≡ true) own.pair needed.0.0.0 in
     absurd (false≢true covered)
 cut_below e t (Branch feature value low high) goal own needed tight = absurd (subst (λ at. IsFeatureOf e at feature) own.pair needed.0.1)
 
@@ -90,9 +92,9 @@ first_cut e t low (Split kids) first own needed tight is =
 -- ---- a pair's cut is met
 
 own_pairs : (e : Election) → IsElection e → All IsPair e.roots → All (IsOwnPair e) e.roots
-own_pairs e is pairs at d lt = by (get_or e.roots at d) refl (pairs at d lt)
+own_pairs e is pairs at d lt = by (slice_index_or e.roots at d) refl (pairs at d lt)
   where
-    by : (goal : Goal) → get_or e.roots at d ≡ goal → IsPair goal → IsOwnPair e (get_or e.roots at d)
+    by : (goal : Goal) → slice_index_or e.roots at d ≡ goal → IsPair goal → IsOwnPair e (slice_index_or e.roots at d)
     by goal here (g, l, pair) = record {
       g = g;
       l = l;
@@ -118,15 +120,15 @@ unmet_pair e goal changes low first is start few less cut bound =
     let tight : IsTightCut e first.multipliers (below root_spot (without_limits (Pair g l))) = subst (IsTightCut e first.multipliers) place cut.tight in
     let here : IsBound e (without_limits (Pair g l)) first.multipliers low = subst (λ n. IsBound e n first.multipliers low) node bound in
     let same : tight.0 ≡ low = one_bound e (without_limits (Pair g l)) first.multipliers tight.0 low tight.1 here in
-    let anchor = anchor_is e g l (without_limits Root ∷ []) tight.2 tight.3 in
-    let ceiling : IsCeiling e (without_limits (Pair g l)) tight.4 = subst (λ n. IsCeiling e n tight.4) anchor tight.5 in
+    let anchor = anchor_is e g l (without_limits Root ∷ []) tight.2.0 tight.2.1 in
+    let ceiling : IsCeiling e (without_limits (Pair g l)) tight.2.2 = subst (λ n. IsCeiling e n tight.2.2) anchor tight.2.3 in
     let short = short_is_cut e g l low is cut.own.root (omega (arith, less, few))
     (λ reached. let fewest = start.fewest cut.own.at g l low cut.own.stands reached in omega (arith, fewest, less)) in
     let there : Contains e.roots (Pair g l) = (cut.own.at, cut.own.stands.0, get_or_default e.roots cut.own.at (Pair g l) Root cut.own.stands.0 ∙ cut.own.stands.1) in
     let ground = ground_in e (Pair g l) is (reached_root_goal e (Pair g l) there) in
-    let beyond = cut_within_ceiling e (ground_at e (Pair g l)) [] (1 ∷ []) (low + 1) tight.4 ground (no_limits_are e (Pair g l)) refl (omega (arith, less, few))
+    let beyond = cut_within_ceiling e (ground_at e (Pair g l)) [] (1 ∷ []) (low + 1) tight.2.2 ground (no_limits_are e (Pair g l)) refl (omega (arith, less, few))
     (subst (Cuts e (without_limits (Pair g l)) (1 ∷ [])) (omega arith) short) ceiling in
-    let most = tight.6 in
+    let most = tight.2.4 in
     omega (arith, beyond, most, same)
   where
     ground_in : (e : Election) (goal : Goal) → IsElection e → IsReached e goal → IsGroundIn e (ground_at e goal)

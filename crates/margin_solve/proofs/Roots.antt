@@ -59,9 +59,9 @@ chosen_alone p none one = none 0 (record {
 pub last_below : (p : Poll) (x : ℕ) → IsReported Irv p (Winner x) → x < p.c
 last_below p x is =
     let long = is.1.legal.whole.long in
-    let last = is.3 in
-    let below = is.1.legal.whole.below is.2 (omega (arith, long, last)) in
-    let same = is.4 in
+    let last = is.2.1 in
+    let below = is.1.legal.whole.below is.2.0 (omega (arith, long, last)) in
+    let same = is.2.2 in
     omega (arith, below, same)
 
 alone_by : (rule : Rule) (p : Poll) (o : Outcome) → IsReported rule p o → p.c ≡ 1 → root_goals rule 1 o ≡ []

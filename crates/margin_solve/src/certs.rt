@@ -1,16 +1,19 @@
 // Certificates made of what was found.
 ghost use Rattle.std.specs.Prelude.{◌≡◌, ◌≢◌, ◌≤◌, [], None, Some, IfOk};
 ghost use Rattle.alteration_model.specs.Faults.{pairs_of};
+ghost use Rattle.bound_tree.specs.Nodes.{height};
+ghost use Rattle.bound_tree.specs.declared.bound.TheConstants.{MOST_DEPTH};
 ghost use Rattle.cert_text.specs.declared.cert.Claim.TheVariants as claims;
 ghost use Rattle.cert_text.specs.declared.limits.TheConstants.{MOST_BUDGET};
-ghost use Rattle.goal_rows.specs.Goals.{IsComplete, root_goals};
-ghost use Rattle.goal_rows.specs.Races.{IsRace, election_of};
+ghost use Rattle.goal_rows.specs.Goals.{root_goals};
+ghost use Rattle.goal_rows.specs.Races.{IsRace};
 ghost use Rattle.goal_rows.specs.declared.goals.Goal.TheVariants.{Root as TheRoot};
 ghost use Rattle.margin_check.specs.Validity.{named_goal};
 ghost use Rattle.margin_solve.specs.Made.{HasParts, HasTurn, IsBegun, IsMade, upper_by};
+ghost use Rattle.margin_solve.specs.Numbers.{AreNarrow};
 ghost use Rattle.search_leaves.specs.Found.{IsFound, problem_of};
 
-use crate::numbers::numbers_read;
+use crate::numbers::tree_read;
 use alteration_model::{Alteration, Put, PutList};
 use ballot_form::CandList;
 use bound_tree::BoundTree;
@@ -37,23 +40,47 @@ pub(crate) fn cert_of(
     requires found { IsFound (problem_of race.now (upper_by start) budget) found }
     ensures { IfOk result (IsMade race.now budget) }
 {
+    tree_read(&found.tree);
+    match start {
+        Some(start) => started_cert(alloc, race, &start, budget, found),
+        None => {
+            let Found { tree, .. } = found;
+            fixed_cert(alloc, race, tree)
+        }
+    }
+}
+
+/// The same where these replacements are known, which turn the outcome.
+fn started_cert(
+    alloc: Global,
+    race: &Race<'_>,
+    start: &Witness,
+    budget: u32,
+    found: Found,
+) -> Result<Cert, Memory>
+    requires race { IsRace race.now }
+    requires own { race.now.roots ≡ root_goals race.now.rule race.now.roll.now.c race.now.reported }
+    requires begun { IsBegun race.now (Some start.now) }
+    requires some { 1 ≤ budget }
+    requires most { budget ≤ MOST_BUDGET }
+    requires found { IsFound (problem_of race.now (upper_by (Some start.now)) budget) found }
+    requires narrow { AreNarrow found.tree }
+    requires shallow { height found.tree ≤ MOST_DEPTH }
+    ensures { IfOk result (IsMade race.now budget) }
+{
     let Found { tree, low, end } = found;
-    numbers_read(tree.at(0));
-    let Some(start) = start else {
-        return fixed_cert(alloc, race, tree);
-    };
     let up = start.changes.len();
     match end {
         End::Nothing => unreachable!(),
-        End::Met => turned_cert(alloc, race, Claim::Margin(low), &start, tree),
+        End::Met => turned_cert(alloc, race, Claim::Margin(low), start, tree),
         End::AtPoint(witness) => turned_cert(alloc, race, Claim::Margin(low), &witness, tree),
         End::Budget => {
             let stop = Stop::Budget(budget);
-            turned_cert(alloc, race, Claim::Bounds { low, up, stop }, &start, tree)
+            turned_cert(alloc, race, Claim::Bounds { low, up, stop }, start, tree)
         }
         End::Depth => {
             let stop = Stop::Depth;
-            turned_cert(alloc, race, Claim::Bounds { low, up, stop }, &start, tree)
+            turned_cert(alloc, race, Claim::Bounds { low, up, stop }, start, tree)
         }
     }
 }
