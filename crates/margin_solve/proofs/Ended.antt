@@ -92,7 +92,7 @@ module _ (race : Race) (is : IsRace race) (own : race.roots ≡ root_goals race.
         let claimed = subst (λ u. IfOk r (HasParts race (Bounds found.low u (stops.Budget budget)) found.tree)) count parts in
         with_two r (HasParts race (Bounds found.low (length w.changes) (stops.Budget budget)) found.tree) (HasTurn w) (IsMade race budget) claimed turn
         (λ cert has goes. stopped_made race is own budget few (Bounds found.low (length w.changes) (stops.Budget budget)) found.tree cert has w begun found.low
-            (tree_of (Some (length w.changes)) is_found) (stops.Budget budget) searching.Budget some refl goes (refl, refl) (end_here ends.Budget same))
+        (tree_of (Some (length w.changes)) is_found) (stops.Budget budget) searching.Budget some refl goes (refl, refl) (end_here ends.Budget same))
 
     pub depth_of : {E : Type 0} (up : ℕ) (r : Result Cert E) → up ≡ length w.changes → found.end ≡ ends.Depth → IfOk r (HasParts race (Bounds found.low up stops.Depth) found.tree) → IfOk r (HasTurn w)
         → IfOk r (IsMade race budget)
@@ -100,4 +100,4 @@ module _ (race : Race) (is : IsRace race) (own : race.roots ≡ root_goals race.
         let claimed = subst (λ u. IfOk r (HasParts race (Bounds found.low u stops.Depth) found.tree)) count parts in
         with_two r (HasParts race (Bounds found.low (length w.changes) stops.Depth) found.tree) (HasTurn w) (IsMade race budget) claimed turn
         (λ cert has goes. stopped_made race is own budget few (Bounds found.low (length w.changes) stops.Depth) found.tree cert has w begun found.low
-            (tree_of (Some (length w.changes)) is_found) stops.Depth searching.Depth some refl goes refl (end_here ends.Depth same))
+        (tree_of (Some (length w.changes)) is_found) stops.Depth searching.Depth some refl goes refl (end_here ends.Depth same))

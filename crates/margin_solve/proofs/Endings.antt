@@ -1,6 +1,6 @@
 -- How a search ends that begins with what is known of a race.
 use Rattle.std.proofs.Common.{◌≡◌, ◌⊎◌, ℕ, ◌+◌, ◌<◌, ◌≤◌, ◌∙◌, true, false, List, [], ◌∷◌, Option, Some, None, length, refl, sym, ap, subst, inl, inr, arith}
-use Rattle.std.specs.Prelude.{Contains}
+use Rattle.std.specs.Prelude.{◌↔◌, Contains, IfSome}
 use Rattle.std.proofs.lemmas.Bool.{cases_lt, false≢true}
 use Rattle.alteration_model.proofs.Judged.{no_longer}
 use Rattle.ballot_form.specs.Alterations.{IsAlteration, after}
@@ -19,6 +19,8 @@ use Rattle.goal_rows.specs.declared.goals.Goal.{Goal}
 use Rattle.goal_rows.specs.declared.goals.Goal.TheVariants.{Root, Pair}
 use Rattle.goal_rows.specs.declared.parts.Race.{Race}
 use Rattle.tree_proofs.specs.Proving.{Proves}
+use Rattle.witness_build.specs.Starts.{IsStart}
+use Rattle.witness_build.specs.Witnesses.{IsMetBy}
 use Rattle.witness_build.specs.declared.pairs.Witness.{Witness}
 use Rattle.witness_build.proofs.Cheapest.{no_shorter}
 use Rattle.search_theory.specs.Ends.{Budget, Depth, EndsAtPoint, GoesOn, IsEnd, IsFirst, IsFirstOf, IsKnown, Met, Nothing, Problem}
@@ -49,8 +51,20 @@ some_is m u is = cc
 none_isnt : {A : Type 0} (x : A) → None ≡ Some x → ⊥
 none_isnt x is = absurd cc
 
+-- what is known where a search begins
+pub begun_by : (race : Race) (start : Option Witness) → IsRace race → (start ≡ None) ↔ (race.roll.now.c ≡ 1) → IfSome start (λ w. IsStart (election_of race) w.goal w.changes)
+    → IfSome start (λ w. IsMetBy (election_of race) w.goal w.changes) → IsBegun race start
+begun_by race None is none begins met = none.0 refl
+begun_by race (Some w) is none begins met = (others, begins, met)
+  where
+    others : 2 ≤ race.roll.now.c
+    others = elim (cases_lt 1 race.roll.now.c) [
+      | inl more ↦ omega (arith, more)
+      | inr one ↦ absurd (let some = is.election.poll.some in let no = none.1 (omega (arith, some, one)) in cc)
+    ]
+
 module _ (race : Race) (is : IsRace race) (own : race.roots ≡ root_goals race.rule race.roll.now.c race.reported) where
-  no_goals : race.roll.now.c ≡ 1 → race.roots ≡ []
+  pub no_goals : race.roll.now.c ≡ 1 → race.roots ≡ []
   no_goals alone = alone_without_goals race.rule race.roll.now race.reported race.roots is.election.reported own alone
 
   pub known : (start : Option Witness) (budget : ℕ) → IsBegun race start → IsKnown (problem_of race (upper_by start) budget)

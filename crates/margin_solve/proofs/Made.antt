@@ -256,7 +256,7 @@ module _ (race : Race) (is : IsRace race) (own : race.roots ≡ root_goals race.
         made low (ap (level_of (length p.ballots)) (sym margin)) (tree_here low found) (subst (HasBody e cert) (sym margin) (turned v low turn from.count from.met))
         (subst (EndsAs budget p cert) (sym margin) (inr point))
         (λ decided. absurd (at_no_point problem w.goal w.changes tree low is.election
-            (own_are_pairs race.rule p.c race.reported race.roots (decided_here decided) own) (begun.1.pairs (decided_here decided)) limits.few less found.needed found.tight from.q from.at))
+        (own_are_pairs race.rule p.c race.reported race.roots (decided_here decided) own) (begun.1.pairs (decided_here decided)) limits.few less found.needed found.tight from.q from.at))
 
     -- the search went on where it stopped
     stopped_on : (stop : Stop) (ending : Ending) → StopsAt budget stop ending → IsEnd problem tree low ending → IsEnd problem tree low ends.Budget ⊎ IsEnd problem tree low ends.Depth
@@ -286,7 +286,7 @@ module _ (race : Race) (is : IsRace race) (own : race.roots ≡ root_goals race.
         (subst (HasBody e cert) (sym bounds) (turned w u turn refl begun.2, less, stop_fits stop ending some stops_at))
         (subst (EndsAs budget p cert) (sym bounds) stopped)
         (λ decided. subst (EndsByPairs budget p cert) (sym bounds)
-            (let room = no_room problem w.goal w.changes tree low is.election (own_are_pairs race.rule p.c race.reported race.roots (decided_here decided) own)
-            (begun.1.pairs (decided_here decided)) limits.few less found.needed found.tight on in
-            let pairs = pairs_few race.rule p.c race.reported race.roots is.election.poll.some own (decided_here decided) in
-            omega (arith, room, pairs)))
+        (let room = no_room problem w.goal w.changes tree low is.election (own_are_pairs race.rule p.c race.reported race.roots (decided_here decided) own)
+        (begun.1.pairs (decided_here decided)) limits.few less found.needed found.tight on in
+        let pairs = pairs_few race.rule p.c race.reported race.roots is.election.poll.some own (decided_here decided) in
+        omega (arith, room, pairs)))

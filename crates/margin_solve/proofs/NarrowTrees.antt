@@ -5,11 +5,18 @@ use Rattle.std.proofs.lemmas.List.{get_or_default}
 use Rattle.std.proofs.lemmas.List.Elements.{All-head, All-tail}
 use Rattle.exact_num.specs.declared.limits.TheConstants.{WIDE}
 use Rattle.row_program.specs.declared.Feature.{Feature}
-use Rattle.bound_tree.specs.Plain.{kids_of, plain_of}
+use Rattle.bound_tree.specs.Nodes.{size}
+use Rattle.bound_tree.specs.Plain.{Branch, Cut, Plain, Split, kids_of, plain_of}
 use Rattle.bound_tree.specs.declared.tree.Tree.{Tree}
 use Rattle.bound_tree.specs.declared.tree.Tree.TheVariants as program
 use Rattle.bound_tree.proofs.Shapes.{plain_Branch, plain_Cut, plain_Split}
 use Rattle.margin_solve.specs.Numbers.{AllNarrow, AreNarrow}
+
+-- a tree has a node
+pub some_nodes : (t : Plain) → 1 ≤ size t
+some_nodes (Split kids) = omega arith
+some_nodes (Branch feature value low high) = omega arith
+some_nodes (Cut multipliers) = omega arith
 
 -- the kid's multipliers aren't wide
 abbrev pub IsNarrowKid : Tree → Type 0

@@ -134,7 +134,10 @@ fn goal_text(alloc: Global, goal: &Goal) -> Result<GoalText, Memory>
 {
     match goal {
         Goal::Root => unreachable!(),
-        Goal::Suffix(suffix) => Ok(GoalText::Order(CandList::from_slice(alloc, suffix.as_slice())?)),
+        Goal::Suffix(suffix) => Ok(GoalText::Order(CandList::from_slice(
+            alloc,
+            suffix.as_slice(),
+        )?)),
         Goal::Pair(gainer, loser) => Ok(GoalText::Pair(*gainer, *loser)),
         Goal::Cover(x) => Ok(GoalText::Cover(*x)),
     }

@@ -8,6 +8,7 @@ ghost use Rattle.margin_solve.specs.Numbers.{AreNarrow};
 use bound_tree::{BoundTree, Tree};
 
 /// Reads a bound tree: it isn't too deep, and none of its multipliers is wide.
+#[tactic(auto, using(crate::proofs::NarrowTrees::some_nodes))]
 pub(crate) fn tree_read(bound: &BoundTree)
     ensures narrow { AreNarrow bound.now }
     ensures shallow { height bound.now ≤ MOST_DEPTH }

@@ -22,8 +22,8 @@ returns-in-Budget c =
     c.requires.begun c.requires.found c.len-up.result c.turned_cert-in-Budget.result c.len-up.ensures.value c.in-Budget.is c.turned_cert-in-Budget.ensures.parts
     c.turned_cert-in-Budget.ensures.turn
 
-pub returns : goal.returns
-returns c =
+pub returns-in-Depth : goal.returns-in-Depth
+returns-in-Depth c =
     depth_of c.args.race.now c.requires.race c.requires.own c.args.budget c.requires.some c.requires.most c.args.found c.requires.narrow c.requires.shallow c.args.start.now
     c.requires.begun c.requires.found c.len-up.result c.turned_cert-in-Depth.result c.len-up.ensures.value c.in-Depth.is c.turned_cert-in-Depth.ensures.parts
     c.turned_cert-in-Depth.ensures.turn
