@@ -1,24 +1,26 @@
 -- From what a run leaves to what it promises.
 use Rattle.std.proofs.Common.{ℕ, List, inl, inr}
+use Rattle.ballot_csv.specs.BallotFile.{NamedPoll}
 use Rattle.ballot_csv.specs.PlainForm.{plain_form}
 use Rattle.mov_run.specs.Jobs.{Answers, IsCertified, IsShown, IsTallied}
 use Rattle.mov_run.specs.Promised.{Promised, WritesMargin, WritesPlain, WritesTally}
 use Rattle.mov_run.specs.Run.{Outside, Ran, source_of}
+use Rattle.mov_run.specs.Status.{status_for}
 use Rattle.mov_run.specs.declared.jobs.Job.TheVariants.{Tally, Margin, Show}
 use Rattle.mov_run.specs.declared.runs.Status.{Status}
 use Rattle.mov_run.proofs.BallotRefusals.{refuses}
 use Rattle.mov_run.proofs.Causes.{causes}
 use Rattle.mov_run.proofs.CertChecks.{writes_verdict}
-use Rattle.mov_run.proofs.Delivered.{done_of, memory_of}
+use Rattle.mov_run.proofs.Delivered.{done_of, memory_of, whole_of}
 use Rattle.mov_run.proofs.Told.{ballots_answer}
 
 writes_margin : (old new : Outside) (words : List (List ℕ)) (s : Status) → Ran old new words s → WritesMargin old new words s
-writes_margin old new words s ran rule file k job told untroubled = elim ran.allowed [
+writes_margin old new words s ran rule file budget k job told untroubled = elim ran.allowed [
   | inr m ↦ absurd (untroubled.memory (memory_of old new s ran.answer m.0.0 ran.delivered))
   | inl by ↦
-      let answers : Answers (source_of old new) (Margin rule file) ran.answer = rw job at by in
-      let made = ballots_answer old new file k (IsCertified rule) ran.answer told untroubled.reads answers in
-      (made.0, made.1, made.2, made.3, done_of old new s ran.answer made.1 made.4 ran.delivered untroubled)
+      let answers : Answers (source_of old new) (Margin rule file budget) ran.answer = rw job at by in
+      let made = ballots_answer old new file k (IsCertified rule budget) ran.answer told untroubled.reads answers in
+      (made.0, made.1, made.2, made.3, whole_of old new s (status_for made.0.claim) ran.answer made.1 made.4 ran.delivered untroubled)
 ]
 
 writes_tally : (old new : Outside) (words : List (List ℕ)) (s : Status) → Ran old new words s → WritesTally old new words s

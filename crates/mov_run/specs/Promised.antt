@@ -8,7 +8,6 @@ use Rattle.ballot_form.specs.declared.rule.Rule.{Rule}
 use Rattle.cert_text.specs.CertReading.{cert_at}
 use Rattle.cert_text.specs.CertText.{CertText}
 use Rattle.margin_solve.specs.Certificates.{IsCertOf}
-use Rattle.margin_solve.specs.declared.limits.TheConstants.{DEFAULT_BUDGET}
 use Rattle.margin_check.specs.Meanings.{ClaimIsTrue}
 use Rattle.margin_check.specs.Validity.{IsValidCert}
 use Rattle.margin_check.specs.Verdicts.{IsRefusal}
@@ -19,8 +18,9 @@ use Rattle.mov_run.specs.Words.{meaning, BallotFile}
 use Rattle.cert_text.specs.declared.cert.Cert.{Cert}
 use Rattle.cert_text.specs.declared.fault.CertFault.{CertFault}
 use Rattle.margin_check.specs.declared.verdict.Reason.{Reason}
-use Rattle.mov_run.specs.Run.{EndsWith, IsDone, IsRefused, IsToldContest, IsUntroubled, Outside, Ran, IsToldCert}
+use Rattle.mov_run.specs.Run.{EndsWith, IsDone, IsRefused, IsToldContest, IsUntroubled, EndsWhole, Outside, Ran, IsToldCert}
 use Rattle.mov_run.specs.RunFaults.{line_of}
+use Rattle.mov_run.specs.Status.{status_for}
 use Rattle.mov_run.specs.Verdicts.{refused_text, valid_text}
 use Rattle.mov_run.specs.declared.runs.Status.{Status}
 use Rattle.mov_run.specs.Causes.{Causes}
@@ -79,13 +79,14 @@ pub record WritesVerdict (old new : Outside) (words : List (List ℕ)) (s : Stat
 
 -- ---- the other commands
 
--- the headline: `margin` of a told and accepted file under a rule that it knows writes the certificate of its contest
+-- the headline: `margin` of a told and accepted file under a rule, with a budget, writes the certificate of its
+-- contest, and the status says whether that claims bounds
 abbrev pub WritesMargin : Outside → Outside → List (List ℕ) → Status → Type 0
 WritesMargin old new words s =
-    (rule : Rule) (file : List ℕ) (k : NamedPoll) → meaning words ≡ Ok (Margin rule file) → IsToldContest old file k →
-    IsUntroubled old new s →
-    (cert : Cert) × (text : List ℕ) × IsCertOf rule DEFAULT_BUDGET k.poll cert × CertText text cert
-    × IsDone old new s text
+    (rule : Rule) (file : List ℕ) (budget : ℕ) (k : NamedPoll) → meaning words ≡ Ok (Margin rule file budget) →
+    IsToldContest old file k → IsUntroubled old new s →
+    (cert : Cert) × (text : List ℕ) × IsCertOf rule budget k.poll cert × CertText text cert
+    × EndsWhole old new s (status_for cert.claim) text
 
 -- `tally` of a told and accepted file under a rule writes the text of the tally of its contest
 abbrev pub WritesTally : Outside → Outside → List (List ℕ) → Status → Type 0

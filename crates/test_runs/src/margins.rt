@@ -122,7 +122,8 @@ fn seats_of_a_whole_election(rt: HostRuntime) -> Result<(), Fail> {
 fn margins_of_cycles_and_runoffs(rt: HostRuntime) -> Result<(), Fail> {
     let condorcet: &[&str] = &["margin", "condorcet", "F"];
     let irv: &[&str] = &["margin", "irv", "F"];
-    let twelve = b"movcert 1\nrule irv\nsize 3 12\nreported 0\nmargin 1\ngoal order 0 2 1\nput 1 2\nsplit 2\nsplit 2\ncut 1\nsplit 1\ncut 1 1 0\nsplit 2\nsplit 1\ncut 0 1 0\ncut 1\n";
+    let twelve =
+        b"movcert 1\nrule irv\nsize 3 12\nreported 0\nmargin 1\ngoal order 0 2 1\nput 1 2\nsplit 2\nsplit 2\ncut 1\nsplit 1\ncut 1 1 0\nsplit 2\nsplit 1\ncut 0 1 0\ncut 1\n";
     let table: [(&[&str], u8, &[u8], &[u8], &[u8]); 5] = [
         (
             condorcet,
