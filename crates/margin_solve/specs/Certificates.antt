@@ -25,8 +25,8 @@ use Rattle.search_leaves.specs.Found.{IsFromPoint}
 
 -- ---- the search
 
--- the search that a certificate tells of, where so many replacements are known to turn the outcome, if any, and the tree
--- may have so many nodes
+-- the search that a certificate tells of, where so many replacements are known to turn the outcome, if any, and the
+-- tree may have so many nodes
 abbrev pub search_by : Poll → Cert → Option ℕ → ℕ → Problem
 search_by p cert upper budget = record { election = election_by p cert; upper = upper; budget = budget }
 

@@ -15,10 +15,10 @@ use std::alloc::Global;
 use suffix_search::deepen;
 use witness_build::{Witness, start_witness};
 
-/// The certificate of a contest under a rule, from a search whose tree has at most `budget` nodes, of which there are at
-/// least 1 and at most `MOST_BUDGET`. It claims the margin, or that nothing turns the outcome, or, only where the next
-/// step would pass the budget or the greatest depth, two bounds on the margin. Where pairs decide, the budget
-/// `1 + c * c` is enough for `c` candidates.
+/// The certificate of a contest under a rule, from a search whose tree has at most `budget` nodes: from 1 to
+/// `MOST_BUDGET`. It claims the margin, or that nothing turns the outcome, or, only where the next step would pass the
+/// budget or the greatest depth, two bounds on the margin. Where pairs decide, the budget `1 + c * c` is enough for `c`
+/// candidates.
 pub fn margin(alloc: Global, contest: &Contest, rule: Rule, budget: u32) -> Result<Cert, Memory>
     requires lawful { IsRule rule }
     requires some { 1 ≤ budget }
