@@ -1,18 +1,16 @@
 -- A pair that isn't brought level by so many replacements is cut beyond them by the multiplier 1.
-use Rattle.std.proofs.Common.{ℕ, zero, suc, List, [], ◌∷◌, All, ◌≡◌, ◌<◌, ◌≤◌, ◌+◌, ◌-◌, ◌∙◌, length, map, min, ap, sym, subst, refl, inl, inr, arith}
-use Rattle.std.specs.Prelude.{ℤ, pos, ◌+ℤ◌, ◌-ℤ◌, ◌*ℤ◌, ◌<ℤ◌, slice_index_or}
+use Rattle.std.proofs.Common.{ℕ, zero, suc, List, [], ◌∷◌, All, ◌≡◌, ◌<◌, ◌≤◌, ◌+◌, ◌-◌, length, map, min, ap, sym, subst, refl, inl, inr, arith}
+use Rattle.std.specs.Prelude.{ℤ, pos, ◌+ℤ◌, ◌-ℤ◌, ◌*ℤ◌, ◌<ℤ◌}
 use Rattle.std.proofs.lemmas.Int.{ints}
-use Rattle.std.proofs.lemmas.List.{get_or_default}
 use Rattle.std.proofs.lemmas.Bool.{cases_lt}
 use Rattle.mov_base.specs.Sums.{add_up, most, sum_z}
 use Rattle.mov_base.proofs.Signed.{sum_z-difference}
 use Rattle.ballot_form.specs.Ballots.{IsValidBallot, Poll}
 use Rattle.goal_rows.specs.Elections.{Election}
 use Rattle.goal_rows.specs.Goals.{IsElection, IsRootOf, gainer_points, loser_points, pair_weight}
-use Rattle.goal_rows.specs.Nodes.{Kept, kept_row, number_count, without_limits}
+use Rattle.goal_rows.specs.Nodes.{Kept, kept_row, without_limits}
 use Rattle.goal_rows.specs.Pairs.{gain_of}
-use Rattle.goal_rows.specs.declared.goals.Goal.{Goal}
-use Rattle.goal_rows.specs.declared.goals.Goal.TheVariants.{Root, Pair}
+use Rattle.goal_rows.specs.declared.goals.Goal.TheVariants.{Pair}
 use Rattle.goal_rows.proofs.PairPoints.{pair_points}
 use Rattle.dual_bound.specs.CutTest.{AreGains, Cuts, CutsKept, IsGain}
 use Rattle.witness_build.specs.Witnesses.{PairReaches, pair_deficit, pair_gains}

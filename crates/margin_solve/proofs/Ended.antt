@@ -1,5 +1,5 @@
 -- What is made of each end of a search.
-use Rattle.std.proofs.Common.{ℕ, List, [], Some, ◌≡◌, ◌≤◌, ◌∙◌, Option, Result, Ok, Err, IfOk, length, refl, sym, subst, inl, inr, arith}
+use Rattle.std.proofs.Common.{ℕ, [], Some, ◌≡◌, ◌≤◌, Option, Result, Ok, Err, IfOk, length, refl, subst, inl, inr, arith}
 use Rattle.std.specs.Prelude.{None as Nothing}
 use Rattle.bound_tree.specs.Nodes.{height}
 use Rattle.bound_tree.specs.declared.bound.TheConstants.{MOST_DEPTH}

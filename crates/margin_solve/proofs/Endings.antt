@@ -1,5 +1,5 @@
 -- How a search ends that begins with what is known of a race.
-use Rattle.std.proofs.Common.{◌≡◌, ◌⊎◌, ℕ, ◌+◌, ◌<◌, ◌≤◌, ◌∙◌, true, false, List, [], ◌∷◌, Option, Some, None, length, refl, sym, ap, subst, inl, inr, arith}
+use Rattle.std.proofs.Common.{◌≡◌, ◌⊎◌, ℕ, ◌<◌, ◌≤◌, ◌∙◌, false, List, [], Option, Some, None, length, refl, sym, ap, subst, inl, inr, arith}
 use Rattle.std.specs.Prelude.{◌↔◌, Contains, IfSome}
 use Rattle.std.proofs.lemmas.Bool.{cases_lt, false≢true}
 use Rattle.alteration_model.proofs.Judged.{no_longer}
@@ -27,7 +27,7 @@ use Rattle.search_theory.specs.Ends.{Budget, Depth, EndsAtPoint, GoesOn, IsEnd, 
 use Rattle.search_theory.specs.Ends as searching
 use Rattle.search_theory.specs.Branchings.{Values}
 use Rattle.search_theory.specs.Spots.{Hung, has_cover, hung_among, root_spot, spots_below}
-use Rattle.search_theory.specs.Trees.{IsNeeded, top_of}
+use Rattle.search_theory.specs.Trees.{IsNeeded}
 use Rattle.search_theory.proofs.Facts.{laws_of}
 use Rattle.search_leaves.specs.Found.{problem_of}
 use Rattle.margin_solve.specs.Made.{IsBegun, upper_by}

@@ -5,5 +5,6 @@ pub mod PairTrees
 pub mod PrintedTrees
 pub mod Printing
 pub mod NarrowTrees
+pub mod TextSizes
 pub mod Made
 pub mod Ended

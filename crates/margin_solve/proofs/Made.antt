@@ -1,5 +1,5 @@
 -- The certificates that are made are those of their contest.
-use Rattle.std.proofs.Common.{ℕ, List, [], Some, ◌≡◌, ◌⊎◌, ◌<◌, ◌≤◌, ◌+◌, ◌*◌, ◌∙◌, Option, length, ap, sym, refl, subst, inl, inr, arith}
+use Rattle.std.proofs.Common.{ℕ, List, [], Some, ◌≡◌, ◌⊎◌, ◌<◌, ◌≤◌, ◌+◌, ◌∙◌, Option, length, ap, sym, refl, subst, inl, inr, arith}
 use Rattle.std.specs.Prelude.{None as Nothing}
 use Rattle.std.proofs.lemmas.List.{length-map}
 use Rattle.alteration_model.specs.Faults.{pairs_of}
@@ -7,6 +7,7 @@ use Rattle.alteration_model.specs.declared.puts.Put.{Put}
 use Rattle.alteration_model.proofs.Judged.{no_longer}
 use Rattle.ballot_form.specs.Alterations.{IsAlteration, after}
 use Rattle.ballot_form.specs.Ballots.{Poll}
+use Rattle.ballot_form.specs.declared.limits.TheConstants.{MOST_BALLOTS}
 use Rattle.bound_tree.specs.Nodes.{height, size}
 use Rattle.bound_tree.specs.Plain.{Plain}
 use Rattle.bound_tree.specs.declared.bound.TheConstants.{MOST_DEPTH}
@@ -14,7 +15,6 @@ use Rattle.cert_text.specs.CertText.{BodyFits, ClaimFits, StopFits}
 use Rattle.cert_text.specs.declared.cert.Cert.{Cert}
 use Rattle.cert_text.specs.declared.cert.Claim.{Claim}
 use Rattle.cert_text.specs.declared.cert.Claim.TheVariants.{Margin, Fixed, Bounds}
-use Rattle.cert_text.specs.declared.cert.GoalText.{GoalText}
 use Rattle.cert_text.specs.declared.cert.Stop.{Stop}
 use Rattle.cert_text.specs.declared.cert.Stop.TheVariants as stops
 use Rattle.cert_text.specs.declared.limits.TheConstants.{MOST_BUDGET}
@@ -40,14 +40,15 @@ use Rattle.search_theory.specs.Ends.{Ending, IsEnd, Problem}
 use Rattle.search_theory.specs.Ends as ends
 use Rattle.search_theory.specs.Trees.{IsNeeded, IsTight}
 use Rattle.search_leaves.specs.Found.{IsFromPoint, problem_of}
-use Rattle.margin_solve.specs.Certificates.{EndsAs, EndsByPairs, IsCertOf, IsFixedCert, IsFromStart, IsMetCert, IsPointCert, IsStartOf, IsStoppedCert, StopsAt, search_by}
-use Rattle.margin_solve.specs.Made.{HasParts, HasTurn, IsBegun, IsMade, upper_by}
+use Rattle.margin_solve.specs.Certificates.{EndsAs, EndsByPairs, IsFixedCert, IsFromStart, IsMetCert, IsPointCert, IsStartOf, IsStoppedCert, StopsAt, search_by}
+use Rattle.margin_solve.specs.Made.{HasParts, HasTurn, IsBegun, IsMade}
 use Rattle.margin_solve.specs.Numbers.{AreNarrow}
 use Rattle.margin_solve.proofs.Endings.{IsWithin, fewer, within}
 use Rattle.margin_solve.proofs.PairTrees.{at_no_point, no_room}
 use Rattle.margin_solve.proofs.PrintedTrees.{tree_lines}
 use Rattle.margin_solve.proofs.Printing.{printable, turn_fits}
 use Rattle.margin_solve.proofs.Roots.{pairs_few}
+use Rattle.margin_solve.proofs.TextSizes.{text_short}
 
 -- the tree that a search found, and the number that it proves
 pub record IsTreeOf (e : Election) (budget low : ℕ) (tree : Plain) : Type 0 where
@@ -125,6 +126,11 @@ module _ (race : Race) (is : IsRace race) (own : race.roots ≡ root_goals race.
   body_fits (Margin k) body = turn_fits e k cert.goal body.goal cert.puts election body.named body.met body.count
   body_fits (Bounds low up stop) body = turn_fits e up cert.goal body.0.goal cert.puts election body.0.named body.0.met body.0.count
 
+  few_in_all : (c : Claim) → HasBody e cert c → length cert.puts ≤ MOST_BALLOTS
+  few_in_all Fixed body = let none = ap (λ (puts : List Put). length puts) body.1 in omega (arith, none)
+  few_in_all (Margin k) body = let most = few_puts k body in let count = body.count in let poll = election.poll.few in omega (arith, most, count, poll)
+  few_in_all (Bounds low up stop) body = let most = few_puts up body.0 in let count = body.0.count in let poll = election.poll.few in omega (arith, most, count, poll)
+
   -- a certificate with a proved tree and the body of its claim is one of its contest
   made : (low : ℕ) → low ≡ level_of (length p.ballots) claim → IsTreeOf e budget low tree → HasBody e cert claim → EndsAs budget p cert claim
       → (IsDecidedByPairs race.rule cert.reported → EndsByPairs budget p cert claim) → IsMade race budget cert
@@ -159,6 +165,7 @@ module _ (race : Race) (is : IsRace race) (own : race.roots ≡ root_goals race.
           reported = subst (λ r. IsReported r p cert.reported) parts.rule election.reported;
           valid = valid;
           claim = claim_is_true p cert election.poll text valid;
+          short = text_short p.c (length p.ballots) cert text (omega (arith, small, few)) (few_in_all claim body) election.poll.most (alters cert.claim body_here);
           nodes = small;
           tight = subst (IsTight e) same_tree found.tight;
           needed = needed;

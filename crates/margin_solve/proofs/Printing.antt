@@ -1,5 +1,5 @@
 -- Certificates are within the limits of their text.
-use Rattle.std.proofs.Common.{ℕ, zero, suc, List, [], ◌∷◌, ◌++◌, Some, None, Option, ◌≡◌, ◌<◌, ◌≤◌, ◌+◌, ◌∙◌, length, map, take, slice_get, All, get_or, sym, refl, ap, subst, arith}
+use Rattle.std.proofs.Common.{ℕ, zero, suc, List, [], ◌∷◌, ◌++◌, Some, None, Option, ◌≡◌, ◌≤◌, ◌+◌, ◌∙◌, length, map, take, slice_get, All, sym, refl, ap, subst, arith}
 use Rattle.std.specs.Prelude.{option_map}
 use Rattle.std.specs.List.{range_with_len}
 use Rattle.std.proofs.lemmas.List.{get_or_default, length-map, map-append, take_more}
@@ -24,7 +24,6 @@ use Rattle.cert_text.specs.CertText.{BodyFits, ClaimFits, GoalFits, IsPrintable,
 use Rattle.cert_text.specs.declared.cert.Cert.{Cert}
 use Rattle.cert_text.specs.declared.cert.GoalText.{GoalText}
 use Rattle.cert_text.specs.declared.cert.GoalText.TheVariants.{Cover, Order, Pair}
-use Rattle.cert_text.specs.declared.limits.TheConstants.{GREATEST_CANDIDATE}
 use Rattle.dhondt_seats.specs.Seats.{seats_of, votes_of}
 use Rattle.goal_rows.specs.Elections.{Election}
 use Rattle.goal_rows.specs.Goals.{IsComplete, IsElection, IsRootOf}

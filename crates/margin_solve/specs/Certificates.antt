@@ -5,11 +5,13 @@ use Rattle.alteration_model.specs.Faults.{pairs_of}
 use Rattle.ballot_form.specs.Ballots.{Poll}
 use Rattle.ballot_form.specs.declared.rule.Rule.{Rule}
 use Rattle.bound_tree.specs.Nodes.{size}
+use Rattle.cert_text.specs.CertText.{cert_text}
 use Rattle.cert_text.specs.declared.cert.Cert.{Cert}
 use Rattle.cert_text.specs.declared.cert.Claim.{Claim}
 use Rattle.cert_text.specs.declared.cert.Claim.TheVariants.{Margin, Fixed, Bounds}
 use Rattle.cert_text.specs.declared.cert.Stop.{Stop}
 use Rattle.cert_text.specs.declared.cert.Stop.TheVariants.{Budget, Depth}
+use Rattle.cert_text.specs.declared.limits.TheConstants.{LONGEST_TEXT}
 use Rattle.goal_rows.specs.Elections.{Election}
 use Rattle.goal_rows.specs.Goals.{IsDecidedByPairs}
 use Rattle.goal_rows.specs.Outcomes.{IsReported}
@@ -91,8 +93,9 @@ EndsByPairs budget p cert Fixed = IsFixedCert budget p cert
 EndsByPairs budget p cert (Margin k) = IsMetCert budget p cert k
 EndsByPairs budget p cert (Bounds low up stop) = budget < 1 + p.c * p.c
 
--- the certificate of a contest under a rule, from a search with a tree of at most so many nodes. It is valid, and what
--- it claims is so; each cut of its tree is tight, and nothing in the tree grew for nothing
+-- the certificate of a contest under a rule, from a search with a tree of at most so many nodes. It is valid, what it
+-- claims is so, and its text isn't too long to be checked; each cut of its tree is tight, and nothing in the tree grew
+-- for nothing
 pub record IsCertOf (rule : Rule) (budget : ℕ) (p : Poll) (cert : Cert) : Type 0 where
   pub rule_is : cert.rule ≡ rule
   pub candidates : cert.c ≡ p.c
@@ -100,6 +103,7 @@ pub record IsCertOf (rule : Rule) (budget : ℕ) (p : Poll) (cert : Cert) : Type
   pub reported : IsReported rule p cert.reported
   pub valid : IsValidCert p cert
   pub claim : ClaimIsTrue p cert
+  pub short : length (cert_text cert) ≤ LONGEST_TEXT
   pub nodes : size cert.tree ≤ budget
   pub tight : IsTight (election_by p cert) cert.tree
   pub needed : IsNeeded (election_by p cert) (level_of (length p.ballots) cert.claim) cert.tree

@@ -1,5 +1,5 @@
 -- Trees whose multipliers aren't wide.
-use Rattle.std.specs.Prelude.{ℕ, ◌<◌, All}
+use Rattle.std.specs.Prelude.{◌<◌, All}
 use Rattle.exact_num.specs.declared.limits.TheConstants.{WIDE}
 use Rattle.bound_tree.specs.Plain.{Plain, Kids, Split, Branch, Cut, None, More}
 
