@@ -5,7 +5,6 @@ use Rattle.std.proofs.lemmas.List.{append-nil}
 use Rattle.ballot_form.specs.declared.rule.Rule.{Rule}
 use Rattle.ballot_form.specs.declared.rule.Rule.TheVariants.{Plurality, Borda, Condorcet, Dhondt, Irv}
 use Rattle.drill_text.specs.Drills.{IsDrill, IsLineFor, drill_head}
-use Rattle.drill_text.specs.declared.drills.Drill.{Drill}
 use Rattle.drill_text.specs.declared.limits.TheConstants.{DRILL_SEATS}
 
 -- a line of the rule was added
@@ -17,11 +16,11 @@ joined h a b c d e =
     append_assoc (((h ++ a) ++ b) ++ c) d e ∙ append_assoc ((h ++ a) ++ b) c (d ++ e) ∙ append_assoc (h ++ a) b (c ++ (d ++ e)) ∙ append_assoc h a (b ++ (c ++ (d ++ e)))
     ∙ ap (λ (t : List ℕ). h ++ (a ++ (b ++ (c ++ (d ++ t))))) (sym (append-nil e))
 
-pub summary : (seed : ℕ) (h s t u v : List ℕ) (drill : Drill) (p q r w x : Bool) → h ≡ drill_head seed → Adds seed Plurality p h s → Adds seed Borda q s t → Adds seed Condorcet r t u
-    → Adds seed (Dhondt DRILL_SEATS) w u v → Adds seed Irv x v drill.text.items → drill.stopped ≡ (p || (q || (r || (w || (x || false))))) → IsDrill seed drill
-summary seed h s t u v drill p q r w x head one two three four five stopped = record {
+pub summary : (seed : ℕ) (h s t u v y : List ℕ) (stopped p q r w x : Bool) → h ≡ drill_head seed → Adds seed Plurality p h s → Adds seed Borda q s t → Adds seed Condorcet r t u
+    → Adds seed (Dhondt DRILL_SEATS) w u v → Adds seed Irv x v y → stopped ≡ (p || (q || (r || (w || (x || false))))) → IsDrill seed y stopped
+summary seed h s t u v y stopped p q r w x head one two three four five some = record {
   lines = one.0 ++ (two.0 ++ (three.0 ++ (four.0 ++ (five.0 ++ []))));
-  text = whole;
+  whole = whole;
   each = (
     one.0,
     p,
@@ -57,12 +56,12 @@ summary seed h s t u v drill p q r w x head one two three four five stopped = re
       refl,
     ),
     refl,
-    stopped,
+    some,
   );
 }
   where
-    whole : drill.text.items ≡ drill_head seed ++ (one.0 ++ (two.0 ++ (three.0 ++ (four.0 ++ (five.0 ++ [])))))
+    whole : y ≡ drill_head seed ++ (one.0 ++ (two.0 ++ (three.0 ++ (four.0 ++ (five.0 ++ [])))))
     whole =
-        five.2 ∙ ap (λ (y : List ℕ). y ++ five.0) (four.2 ∙ ap (λ (y : List ℕ). y ++ four.0) (three.2 ∙ ap (λ (y : List ℕ). y ++ three.0)
-        (two.2 ∙ ap (λ (y : List ℕ). y ++ two.0) (one.2 ∙ ap (λ (y : List ℕ). y ++ one.0) head))))
+        five.2 ∙ ap (λ (z : List ℕ). z ++ five.0) (four.2 ∙ ap (λ (z : List ℕ). z ++ four.0) (three.2 ∙ ap (λ (z : List ℕ). z ++ three.0)
+        (two.2 ∙ ap (λ (z : List ℕ). z ++ two.0) (one.2 ∙ ap (λ (z : List ℕ). z ++ one.0) head))))
         ∙ joined (drill_head seed) one.0 two.0 three.0 four.0 five.0

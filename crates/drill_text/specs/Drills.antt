@@ -13,7 +13,6 @@ use Rattle.cert_text.specs.declared.cert.Claim.{Claim}
 use Rattle.cert_text.specs.declared.cert.Claim.TheVariants.{Margin, Fixed, Bounds}
 use Rattle.margin_solve.specs.Certificates.{IsCertOf}
 use Rattle.text_lines.specs.Words.{line_text}
-use Rattle.drill_text.specs.declared.drills.Drill.{Drill}
 use Rattle.drill_text.specs.declared.limits.TheConstants.{DRILL_BALLOTS, DRILL_BUDGET, DRILL_CANDIDATES, DRILL_SEATS}
 
 -- the ballots of the contest that a seed makes
@@ -64,8 +63,8 @@ AreLinesFor seed (rule ∷ rules) lines stopped =
     × IsLineFor seed rule line one × AreLinesFor seed rules rest more × (lines ≡ line ++ rest)
     × (stopped ≡ (one || more))
 
--- the summary of the seed, and whether some claim in it is a pair of bounds
-pub record IsDrill (seed : ℕ) (drill : Drill) : Type 0 where
+-- the text is the summary of the seed, and some claim in it is a pair of bounds, or none is
+pub record IsDrill (seed : ℕ) (text : List ℕ) (stopped : Bool) : Type 0 where
   pub lines : List ℕ
-  pub text : drill.text.items ≡ drill_head seed ++ lines
-  pub each : AreLinesFor seed drill_rules lines drill.stopped
+  pub whole : text ≡ drill_head seed ++ lines
+  pub each : AreLinesFor seed drill_rules lines stopped

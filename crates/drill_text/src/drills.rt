@@ -15,16 +15,9 @@ use mov_base::Memory;
 use std::alloc::Global;
 use text_lines::written::{push_number, push_one, push_two};
 
-/// The summary of a drill, and whether some claim in it is a pair of bounds.
-#[derive(Debug, Drop)]
-pub struct Drill {
-    pub text: Vec<u8>,
-    pub stopped: bool,
-}
-
-/// The summary of the drill of a seed.
-pub fn drill_text(alloc: Global, seed: u64) -> Result<Drill, Memory>
-    ensures { IfOk result (IsDrill seed) }
+/// The summary of the drill of a seed, and whether some claim in it is a pair of bounds.
+pub fn drill_text(alloc: Global, seed: u64) -> Result<(Vec<u8>, bool), Memory>
+    ensures { IfOk result (λ drill. IsDrill seed drill.0.items drill.1) }
 {
     let contest = make(alloc, seed, DRILL_CANDIDATES, DRILL_BALLOTS)?;
     let mut text = head(alloc, seed)?;
@@ -34,7 +27,7 @@ pub fn drill_text(alloc: Global, seed: u64) -> Result<Drill, Memory>
     let seats = push_margin(alloc, &contest, Rule::Dhondt(DRILL_SEATS), &mut text)?;
     let runoff = push_margin(alloc, &contest, Rule::Irv, &mut text)?;
     let stopped = any_of(plurality, borda, condorcet, seats, runoff);
-    Ok(Drill { text, stopped })
+    Ok((text, stopped))
 }
 
 /// Whether some of these hold.

@@ -9,5 +9,5 @@
 mod drills;
 mod limits;
 
-pub use drills::{Drill, drill_text};
+pub use drills::drill_text;
 pub use limits::{DRILL_BALLOTS, DRILL_BUDGET, DRILL_CANDIDATES, DRILL_SEATS};
