@@ -8,10 +8,8 @@
 //! replacements, on `cert_text` for certificates, and on `margin_check` for their validity.
 #![tactic(auto)]
 
-mod certs;
 mod limits;
 mod margins;
-mod numbers;
 
 pub use limits::DEFAULT_BUDGET;
 pub use margins::margin;
