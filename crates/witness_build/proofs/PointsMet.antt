@@ -36,11 +36,12 @@ use Rattle.dual_bound.proofs.Keyed.{worth}
 use Rattle.dual_bound.proofs.Pairwise.{zip_none}
 use Rattle.dual_bound.proofs.Sound.{sum_z-after}
 use Rattle.dual_bound.proofs.SuffixWeights.{key_places, suffix_worth}
-use Rattle.node_bounds.proofs.KeyWorths.{cover_key_worth, suffix_arc_worth, suffix_key_worth}
+use Rattle.dual_bound.proofs.SuffixWorths.{suffix_arc_worth, suffix_key_worth}
+use Rattle.node_bounds.proofs.KeyWorths.{cover_key_worth}
 use Rattle.node_bounds.proofs.PointValues.{met_bring}
 use Rattle.node_bounds.proofs.RestRows.{IsMetAt}
 use Rattle.node_bounds.proofs.RowValues.{AreCounted, AreNumbersOf, arc_worth, arcs_worth, kept_value, key_worth, limit_arc, limit_key}
-use Rattle.node_bounds.proofs.SideBySide.{minus_inside, mixed, none_times, one_time, times_same}
+use Rattle.dual_bound.proofs.SideBySide.{minus_inside, mixed, none_times, one_time, times_same}
 use Rattle.witness_build.specs.FromPoints.{IsFlowUnder, new_ballots}
 use Rattle.witness_build.proofs.LowNumbers.{low_by}
 use Rattle.witness_build.proofs.PointParts.{with_goal}
