@@ -16,12 +16,12 @@ use Rattle.mov_run.specs.Words.{BallotFile, meaning}
 use Rattle.mov_run.specs.declared.jobs.Job.TheVariants.{Check}
 use Rattle.mov_run.specs.declared.runs.Output.{Output}
 use Rattle.mov_run.specs.declared.runs.Status.{Status}
-use Rattle.mov_run.specs.declared.runs.Status.TheVariants.{Done, Refused, Certificate, Ballots, Read, Write, Memory}
+use Rattle.mov_run.specs.declared.runs.Status.TheVariants.{Done, Bounds, Refused, Certificate, Ballots, Read, Write, Memory}
 use Rattle.mov_run.specs.declared.run_faults.RunFault.{RunFault}
 use Rattle.mov_run.specs.declared.run_faults.RunFault.TheVariants as run_fault
 use Rattle.mov_run.proofs.Delivered.{Goes, delivered_err, delivered_ok, memory_of}
-use Rattle.mov_run.proofs.Shapes.{JobShape, file_of_check, no_ballot_file, one_ballot_file, shape}
-use Rattle.mov_run.proofs.Told.{err_is, no_stop, not_both, ok_or_err}
+use Rattle.mov_run.proofs.Shapes.{JobShape, file_of_check, file_of_margin, no_ballot_file, one_ballot_file, shape}
+use Rattle.mov_run.proofs.Told.{contest_of, err_is, no_stop, not_both, ok_or_err}
 
 -- a check could not read its certificate file
 abbrev UnreadCert : Outside → Outside → List (List ℕ) → Type 0
@@ -29,7 +29,7 @@ UnreadCert old new words = (file : List ℕ) × (name : List ℕ) × (meaning wo
 
 -- what a run may end with once the ballot file is accepted
 abbrev Ended : Outside → Outside → List (List ℕ) → Status → Type 0
-Ended old new words s = (s ≡ Done) ⊎ (s ≡ Refused) ⊎ (s ≡ Write) ⊎ (s ≡ Certificate) ⊎ ((s ≡ Read) × UnreadCert old new words)
+Ended old new words s = (s ≡ Done) ⊎ (s ≡ Refused) ⊎ (s ≡ Write) ⊎ (s ≡ Certificate) ⊎ ((s ≡ Read) × UnreadCert old new words) ⊎ (s ≡ Bounds)
 
 -- a run of a job that reads the ballot file
 abbrev AtFile : Outside → Outside → List (List ℕ) → Status → List ℕ → Type 0
@@ -46,9 +46,13 @@ refusal_end : (old new : Outside) (words : List (List ℕ)) (s : Status) (text :
 refusal_end old new words s text (inl w) = inr (inl w.0)
 refusal_end old new words s text (inr c) = inr (inr (inl c.0))
 
+bounds_end : (old new : Outside) (words : List (List ℕ)) (s : Status) (text : List ℕ) → Goes old new s (record { ends = Bounds; text = text }) → Ended old new words s
+bounds_end old new words s text (inl w) = inr (inr (inr (inr (inr w.0))))
+bounds_end old new words s text (inr c) = inr (inr (inl c.0))
+
 cert_end : (old new : Outside) (words : List (List ℕ)) (s : Status) (file name : List ℕ) (t : RunFault) → meaning words ≡ Ok (Check file name) → s ≡ status_of t
     → HasNoCert (source_of old new) name t → Ended old new words s
-cert_end old new words s file name t job is (inl unread) = inr (inr (inr (inr (is ∙ ap status_of unread.0, (file, name, job, unread.1)))))
+cert_end old new words s file name t job is (inl unread) = inr (inr (inr (inr (inl (is ∙ ap status_of unread.0, (file, name, job, unread.1))))))
 cert_end old new words s file name t job is (inr (inl long)) = inr (inr (inr (inl (is ∙ ap status_of long.0))))
 cert_end old new words s file name t job is (inr (inr faulty)) = inr (inr (inr (inl (is ∙ ap status_of faulty.1))))
 
@@ -76,12 +80,20 @@ at_shape old new words s file a d named (inr (inr (inl made))) =
       same_file old new words file made.file made.k made.named named made.contest,
       text_end old new words s made.text (delivered_ok old new s a o made.is d),
     ))
-at_shape old new words s file a d named (inr (inr (inr refusal))) =
+at_shape old new words s file a d named (inr (inr (inr (inl refusal)))) =
     let o : Output = record { ends = Refused; text = refused_text refusal.reason refusal.line } in
     inr (inr (
       refusal.k,
       same_file old new words file refusal.file refusal.k (file_of_check (meaning words) refusal.file refusal.name refusal.job) named refusal.contest,
       refusal_end old new words s (refused_text refusal.reason refusal.line) (delivered_ok old new s a o refusal.is d),
+    ))
+at_shape old new words s file a d named (inr (inr (inr (inr bounds)))) =
+    let o : Output = record { ends = Bounds; text = bounds.text } in
+    inr (inr (
+      bounds.k,
+      same_file old new words file bounds.file bounds.k (file_of_margin (meaning words) bounds.rule bounds.file bounds.budget bounds.job) named
+        (contest_of (source_of old new) bounds.file bounds.k bounds.contest),
+      bounds_end old new words s bounds.text (delivered_ok old new s a o bounds.is d),
     ))
 
 at_file : (old new : Outside) (words : List (List ℕ)) (s : Status) (file : List ℕ) → Ran old new words s → BallotFile (meaning words) file → AtFile old new words s file
@@ -142,9 +154,10 @@ accepted_end old new words s quiet (inl done) = (λ e. absurd (cc), λ e. absurd
 accepted_end old new words s quiet (inr (inl refused)) = (λ e. absurd (cc), λ e. absurd (cc))
 accepted_end old new words s quiet (inr (inr (inl cut))) = (λ e. absurd (cc), λ e. absurd (cc))
 accepted_end old new words s quiet (inr (inr (inr (inl faulty)))) = (λ e. absurd (cc), λ e. absurd (cc))
-accepted_end old new words s quiet (inr (inr (inr (inr unread)))) =
+accepted_end old new words s quiet (inr (inr (inr (inr (inl unread))))) =
     let at = unread.1 in
     (λ e. absurd (let is = unread.0 in cc), λ e. (at.0, at.1, at.2, elim at.3.why [ inl rose ↦ absurd (quiet rose) | inr lacks ↦ lacks ]))
+accepted_end old new words s quiet (inr (inr (inr (inr (inr bounds))))) = (λ e. absurd (cc), λ e. absurd (cc))
 
 accepted_file : (old new : Outside) (words : List (List ℕ)) (s : Status) (file : List ℕ) (k : NamedPoll) → AtFile old new words s file → IsToldContest old file k → (Rose old.files.faults new.files.faults → ⊥)
     → (s ≡ Ballots → ⊥) × (s ≡ Read → LacksCert old words)

@@ -7,7 +7,7 @@ use Rattle.ballot_csv.specs.declared.fault.BallotFault.{BallotFault}
 use Rattle.ballot_csv.specs.declared.limits.TheConstants.{LONGEST_FILE}
 use Rattle.mov_run.specs.Jobs.{Allowed, Answer}
 use Rattle.mov_run.specs.Inputs.{Began, BeganAtMost, HasNoCert, HasNoContest, IsFaultyFile, IsLong}
-use Rattle.mov_run.specs.Causes.{CertCause, ReadCause, RefusalCause, WentOn, Causes}
+use Rattle.mov_run.specs.Causes.{BoundsCause, CertCause, ReadCause, RefusalCause, WentOn, Causes}
 use Rattle.mov_run.specs.Status.{IsEarlyEnd, IsWritten, status_of}
 use Rattle.mov_run.specs.Run.{CutShort, Delivers, Outside, Ran, SaysLine, EndsEarly, Wrote, source_of, EndsWith}
 use Rattle.mov_run.specs.RunFaults.{line_of}
@@ -22,7 +22,7 @@ use Rattle.mov_run.specs.declared.run_faults.RunFault.{RunFault}
 use Rattle.mov_run.specs.declared.run_faults.RunFault.TheVariants as run_fault
 use Rattle.mov_run.proofs.Delivered.{Goes, delivered_err, delivered_ok}
 use Rattle.mov_run.proofs.Accepted.{valid_cause}
-use Rattle.mov_run.proofs.Shapes.{AtCert, AtRefusal, JobShape, begun_at, not_err, not_none, one_fault, shape}
+use Rattle.mov_run.proofs.Shapes.{AtBounds, AtCert, AtRefusal, JobShape, begun_at, not_err, not_none, one_fault, shape}
 
 -- ---- at each status
 
@@ -46,7 +46,7 @@ CauseAt old new words Write = Rose old.out.faults new.out.faults
 CauseAt old new words Done = Quiet old new
     × ((text : List ℕ) × Allowed (source_of old new) words (Ok (record { ends = Done; text = text })) × Took old.out.taken new.out.taken text)
 CauseAt old new words Refused = Quiet old new × RefusalCause old new words
-CauseAt old new words Bounds = ⊥
+CauseAt old new words Bounds = Quiet old new × BoundsCause old new words
 
 silent_at : (old new : Outside) (words : List (List ℕ)) (s : Status) → IsEarlyEnd s → CauseAt old new words s → new.out ≡ old.out
 silent_at old new words Words e at = at.0
@@ -59,7 +59,7 @@ silent_at old new words s e at = absurd e
 quiet_at : (old new : Outside) (words : List (List ℕ)) (s : Status) → IsWritten s → CauseAt old new words s → Quiet old new
 quiet_at old new words Done e at = at.0
 quiet_at old new words Refused e at = at.0
-quiet_at old new words Bounds e at = absurd at
+quiet_at old new words Bounds e at = at.0
 quiet_at old new words s e at = absurd e
 
 -- what is said at one status is said at each
@@ -82,7 +82,7 @@ causes_at old new words s come none begun at =
       done = λ e. (to Done e).1;
       valid = λ e file name check. let made = (to Done e).1 in valid_cause old new words file name made.0 check made.1 made.2;
       refused = λ e. (to Refused e).1;
-      no_bounds = λ e. to Bounds e;
+      bounds = λ e. (to Bounds e).1;
     }
 
 -- the same, where the words are a job
@@ -149,6 +149,30 @@ refusal_made old new words s a at allowed (inl w) =
     rw w.0 (quiet_of old new (refused_text at.reason at.line) w.1, (at.name, at.k, at.cert, at.reason, at.line, on, at.read, at.refusal, w.1.whole))
 refusal_made old new words s a at allowed (inr c) = rw c.0 (cut_at old new words (record { ends = Refused; text = refused_text at.reason at.line }) allowed c.1)
 
+bounds_made : (old new : Outside) (words : List (List ℕ)) (s : Status) (a : Answer) (at : AtBounds (source_of old new) (meaning words) a)
+    → Allowed (source_of old new) words (Ok (record { ends = Bounds; text = at.text })) → Goes old new s (record { ends = Bounds; text = at.text }) → CauseAt old new words s
+bounds_made old new words s a at allowed (inl w) =
+    let cause : BoundsCause old new words = record {
+      rule = at.rule;
+      file = at.file;
+      budget = at.budget;
+      k = at.k;
+      cert = at.cert;
+      low = at.low;
+      up = at.up;
+      stop = at.stop;
+      text = at.text;
+      job = at.job;
+      contest = at.contest;
+      begun = at.begun;
+      found = at.found;
+      claimed = at.claimed;
+      spelled = at.spelled;
+      whole = w.1.whole;
+    } in
+    rw w.0 (quiet_of old new at.text w.1, cause)
+bounds_made old new words s a at allowed (inr c) = rw c.0 (cut_at old new words (record { ends = Bounds; text = at.text }) allowed c.1)
+
 job_cause : (old new : Outside) (words : List (List ℕ)) (s : Status) (a : Answer) → Allowed (source_of old new) words a → Delivers old new a s → JobShape (source_of old new) (meaning words) a
     → CauseAt old new words s
 job_cause old new words s a allowed d (inl at) =
@@ -160,9 +184,12 @@ job_cause old new words s a allowed d (inr (inl at)) =
 job_cause old new words s a allowed d (inr (inr (inl at))) =
     let o : Output = record { ends = Done; text = at.text } in
     text_made old new words s at.text (allowed_of old new words a o at.is allowed) (delivered_ok old new s a o at.is d)
-job_cause old new words s a allowed d (inr (inr (inr at))) =
+job_cause old new words s a allowed d (inr (inr (inr (inl at)))) =
     let o : Output = record { ends = Refused; text = refused_text at.reason at.line } in
     refusal_made old new words s a at (allowed_of old new words a o at.is allowed) (delivered_ok old new s a o at.is d)
+job_cause old new words s a allowed d (inr (inr (inr (inr at)))) =
+    let o : Output = record { ends = Bounds; text = at.text } in
+    bounds_made old new words s a at (allowed_of old new words a o at.is allowed) (delivered_ok old new s a o at.is d)
 
 pub causes : (old new : Outside) (words : List (List ℕ)) (s : Status) → Ran old new words s → Causes old new words s
 causes old new words s ran = elim (shape (source_of old new) (meaning words) ran.answer ran.allowed) [

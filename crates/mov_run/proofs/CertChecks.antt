@@ -22,11 +22,11 @@ use Rattle.mov_run.specs.Verdicts.{refused_text, valid_text, verdict_text}
 use Rattle.mov_run.specs.declared.jobs.Job.TheVariants.{Check}
 use Rattle.mov_run.specs.declared.runs.Output.{Output}
 use Rattle.mov_run.specs.declared.runs.Status.{Status}
-use Rattle.mov_run.specs.declared.runs.Status.TheVariants.{Certificate, Read, Memory}
+use Rattle.mov_run.specs.declared.runs.Status.TheVariants.{Done, Refused, Certificate, Read, Memory}
 use Rattle.mov_run.specs.declared.run_faults.RunFault.{RunFault}
 use Rattle.mov_run.specs.declared.run_faults.RunFault.TheVariants as run_fault
 use Rattle.mov_run.proofs.BallotRefusals.{ends_with}
-use Rattle.mov_run.proofs.Delivered.{Goes, delivered_err, delivered_ok, done_by, memory_of, refused_by}
+use Rattle.mov_run.proofs.Delivered.{Goes, delivered_err, delivered_ok, memory_of, whole_by}
 use Rattle.mov_run.proofs.Told.{both_answer, err_is, no_cert_stop, not_both, ok_or_err, same_cert}
 
 -- the output of a verdict
@@ -71,7 +71,7 @@ says_valid : (old new : Outside) (s : Status) (k : NamedPoll) (cert : Cert) → 
 says_valid old new s k cert by goes untroubled = record {
   valid = by.valid.0 refl;
   claim = by.claim refl;
-  done = done_by old new s (valid_text cert) goes untroubled;
+  done = whole_by old new s Done (valid_text cert) goes untroubled;
 }
 
 said : (old new : Outside) (s : Status) (k : NamedPoll) (cert : Cert) (v : Verdict) → IsVerdict k cert v → Goes old new s (output_of cert v) → IsUntroubled old new s
@@ -81,7 +81,7 @@ said old new s k cert (No reason line) by goes untroubled = inr (record {
   reason = reason;
   line = line;
   refusal = (by.refused reason line).0 refl;
-  refused = refused_by old new s (refused_text reason line) goes untroubled;
+  refused = whole_by old new s Refused (refused_text reason line) goes untroubled;
 })
 
 judged : (old new : Outside) (s : Status) (name : List ℕ) (k : NamedPoll) (cert : Cert) → AtCheck old new s name k → IsToldCert old name cert → IsUntroubled old new s
@@ -102,7 +102,7 @@ is_refused : (old new : Outside) (s : Status) (name : List ℕ) (k : NamedPoll) 
 is_refused old new s name k cert reason line at told untroubled refusal =
     let found = verdict_on old new s name k cert at told untroubled in
     let is : found.0 ≡ No reason line = (found.1.refused reason line).1 refusal in
-    refused_by old new s (refused_text reason line) (subst (λ v. Goes old new s (output_of cert v)) is found.2) untroubled
+    whole_by old new s Refused (refused_text reason line) (subst (λ v. Goes old new s (output_of cert v)) is found.2) untroubled
 
 -- ---- a text that is no certificate
 

@@ -14,4 +14,3 @@ pub mod CertChecks
 pub mod Accepted
 pub mod Causes
 pub mod Promises
-pub mod Known

@@ -3,20 +3,26 @@ use Rattle.std.proofs.Common.{ℕ, List, ◌≡◌, ◌≤◌, ◌⊎◌, ◌∙
 use Rattle.std.specs.Prelude.{Result, Ok, Err}
 use Rattle.ballot_csv.specs.BallotFile.{NamedPoll}
 use Rattle.ballot_csv.specs.PlainForm.{plain_form}
+use Rattle.ballot_form.specs.declared.rule.Rule.{Rule}
+use Rattle.cert_text.specs.CertText.{CertText}
 use Rattle.cert_text.specs.declared.cert.Cert.{Cert}
+use Rattle.cert_text.specs.declared.cert.Claim.{Claim}
+use Rattle.cert_text.specs.declared.cert.Claim.TheVariants as claim
+use Rattle.cert_text.specs.declared.cert.Stop.{Stop}
 use Rattle.margin_check.specs.Verdicts.{IsRefusal}
 use Rattle.margin_check.specs.declared.verdict.Reason.{Reason}
 use Rattle.margin_check.specs.declared.verdict.Verdict.{Verdict}
 use Rattle.margin_check.specs.declared.verdict.Verdict.TheVariants.{Valid, No}
+use Rattle.margin_solve.specs.Certificates.{IsCertOf}
 use Rattle.mov_run.specs.Jobs.{Answer, Answers, AnswersWords, IsCertified, IsChecked, IsOutOfMemory, IsShown, IsTallied, IsVerdict, OverBallots, OverCert, OverContest}
 use Rattle.mov_run.specs.Inputs.{Began, BeganAtMost, HasNoCert, HasNoContest, IsCertFile, IsContestFile, IsReadContest, Source}
 use Rattle.mov_run.specs.Verdicts.{refused_text, valid_text, verdict_text}
-use Rattle.mov_run.specs.Status.{status_after}
+use Rattle.mov_run.specs.Status.{status_after, status_for}
 use Rattle.mov_run.specs.Words.{BallotFile, IsNoCommand, file_count}
 use Rattle.mov_run.specs.declared.jobs.Job.{Job}
 use Rattle.mov_run.specs.declared.jobs.Job.TheVariants.{Tally, Margin, Check, Show}
 use Rattle.mov_run.specs.declared.jobs.WordFault.{WordFault}
-use Rattle.mov_run.specs.declared.runs.Status.TheVariants.{Done, Refused}
+use Rattle.mov_run.specs.declared.runs.Status.TheVariants.{Done, Bounds, Refused}
 use Rattle.mov_run.specs.declared.run_faults.RunFault.{RunFault}
 use Rattle.mov_run.specs.declared.run_faults.RunFault.TheVariants as run_fault
 use Rattle.mov_run.proofs.Told.{contest_of}
@@ -69,8 +75,27 @@ pub record AtRefusal (src : Source) (m : Result Job WordFault) (a : Answer) : Ty
   pub refusal : IsRefusal k.poll cert reason line
   pub is : a ≡ Ok (record { ends = Refused; text = refused_text reason line })
 
+-- a certificate is made that claims bounds
+pub record AtBounds (src : Source) (m : Result Job WordFault) (a : Answer) : Type 0 where
+  pub rule : Rule
+  pub file : List ℕ
+  pub budget : ℕ
+  pub k : NamedPoll
+  pub cert : Cert
+  pub low : ℕ
+  pub up : ℕ
+  pub stop : Stop
+  pub text : List ℕ
+  pub job : m ≡ Ok (Margin rule file budget)
+  pub contest : IsReadContest src file k
+  pub begun : Began src 1
+  pub found : IsCertOf rule budget k.poll cert
+  pub claimed : cert.claim ≡ claim.Bounds low up stop
+  pub spelled : CertText text cert
+  pub is : a ≡ Ok (record { ends = Bounds; text = text })
+
 abbrev pub JobShape : Source → Result Job WordFault → Answer → Type 0
-JobShape src m a = AtBallots src m a ⊎ AtCert src m a ⊎ AtText src m a ⊎ AtRefusal src m a
+JobShape src m a = AtBallots src m a ⊎ AtCert src m a ⊎ AtText src m a ⊎ AtRefusal src m a ⊎ AtBounds src m a
 
 contest_shape : (src : Source) (m : Result Job WordFault) (file : List ℕ) (next : NamedPoll → Answer → Type 0) (a : Answer) → BallotFile m file
     → ((k : NamedPoll) → next k a → JobShape src m a) → OverContest src file next a → JobShape src m a
@@ -91,7 +116,7 @@ verdict_shape : (src : Source) (file name : List ℕ) (k : NamedPoll) (cert : Ce
     → a ≡ Ok (record { ends = status_after v; text = verdict_text cert v }) → JobShape src (Ok (Check file name)) a
 verdict_shape src file name k cert a Valid contest begun read by is =
     text_shape src (Ok (Check file name)) file k a (valid_text cert) refl contest (record { count = 2; within = omega arith; begun = begun }) is
-verdict_shape src file name k cert a (No reason line) contest begun read by is = inr (inr (inr (record {
+verdict_shape src file name k cert a (No reason line) contest begun read by is = inr (inr (inr (inl (record {
   file = file;
   name = name;
   k = k;
@@ -104,7 +129,7 @@ verdict_shape src file name k cert a (No reason line) contest begun read by is =
   read = read;
   refusal = (by.refused reason line).0 refl;
   is = is;
-})))
+}))))
 
 cert_shape : (src : Source) (file name : List ℕ) (k : NamedPoll) (a : Answer) → IsContestFile src file k → Began src 2 → OverCert src name (λ cert a. IsChecked k cert a) a
     → JobShape src (Ok (Check file name)) a
@@ -121,9 +146,40 @@ cert_shape src file name k a contest begun (inl stopped) = inr (inl (record {
 }))
 cert_shape src file name k a contest begun (inr good) = verdict_shape src file name k good.0 a good.2.0 contest begun good.1 good.2.1 good.2.2
 
+claim_shape : (src : Source) (rule : Rule) (file : List ℕ) (budget : ℕ) (k : NamedPoll) (a : Answer) (cert : Cert) (text : List ℕ) (c : Claim) → IsReadContest src file k → Began src 1
+    → IsCertOf rule budget k.poll cert → CertText text cert → cert.claim ≡ c → a ≡ Ok (record { ends = status_for c; text = text }) → JobShape src (Ok (Margin rule file budget)) a
+claim_shape src rule file budget k a cert text (claim.Margin n) contest begun found spelled claimed is =
+    text_shape src (Ok (Margin rule file budget)) file k a text refl (contest_of src file k contest) (record { count = 1; within = omega arith; begun = begun }) is
+claim_shape src rule file budget k a cert text claim.Fixed contest begun found spelled claimed is =
+    text_shape src (Ok (Margin rule file budget)) file k a text refl (contest_of src file k contest) (record { count = 1; within = omega arith; begun = begun }) is
+claim_shape src rule file budget k a cert text (claim.Bounds low up stop) contest begun found spelled claimed is = inr (inr (inr (inr (record {
+  rule = rule;
+  file = file;
+  budget = budget;
+  k = k;
+  cert = cert;
+  low = low;
+  up = up;
+  stop = stop;
+  text = text;
+  job = refl;
+  contest = contest;
+  begun = begun;
+  found = found;
+  claimed = claimed;
+  spelled = spelled;
+  is = is;
+}))))
+
+margin_shape : (src : Source) (rule : Rule) (file : List ℕ) (budget : ℕ) (k : NamedPoll) (a : Answer) → IsReadContest src file k → Began src 1 → IsCertified rule budget k a
+    → JobShape src (Ok (Margin rule file budget)) a
+margin_shape src rule file budget k a contest begun made = claim_shape src rule file budget k a made.0 made.1 made.0.claim contest begun made.2 made.3 refl made.4
+
 job_shape : (src : Source) (job : Job) (a : Answer) → Answers src job a → JobShape src (Ok job) a
 job_shape src (Tally rule file) a by = ballots_shape src (Ok (Tally rule file)) file (IsTallied rule) a refl (omega arith) (λ k made. (made.0, made.2)) by
-job_shape src (Margin rule file) a by = ballots_shape src (Ok (Margin rule file)) file (IsCertified rule) a refl (omega arith) (λ k made. (made.1, made.4)) by
+job_shape src (Margin rule file budget) a by =
+    contest_shape src (Ok (Margin rule file budget)) file (λ k a. IsReadContest src file k × Began src 1 × IsCertified rule budget k a) a refl
+    (λ k made. margin_shape src rule file budget k a made.0 made.1 made.2) by
 job_shape src (Check file name) a by =
     contest_shape src (Ok (Check file name)) file (λ k a. IsContestFile src file k × Began src 2 × OverCert src name (λ cert a. IsChecked k cert a) a) a refl
     (λ k over. cert_shape src file name k a over.0 over.1 over.2) by
@@ -146,7 +202,7 @@ shape src m a (inr none) = inr (inl none)
 
 some_file : (m : Result Job WordFault) (file : List ℕ) → BallotFile m file → 1 ≤ file_count m
 some_file (Ok (Tally rule name)) file named = omega arith
-some_file (Ok (Margin rule name)) file named = omega arith
+some_file (Ok (Margin rule name budget)) file named = omega arith
 some_file (Ok (Check name cert)) file named = omega arith
 some_file (Ok (Show name)) file named = omega arith
 some_file (Err f) file named = absurd named
@@ -154,16 +210,20 @@ some_file (Err f) file named = absurd named
 both_files : (m : Result Job WordFault) (file name : List ℕ) → m ≡ Ok (Check file name) → 2 ≤ file_count m
 both_files m file name is = rw is (omega arith)
 
+pub file_of_margin : (m : Result Job WordFault) (rule : Rule) (file : List ℕ) (budget : ℕ) → m ≡ Ok (Margin rule file budget) → BallotFile m file
+file_of_margin m rule file budget is = rw is refl
+
 -- a job begins no more files than it has
 pub begun_at : (src : Source) (m : Result Job WordFault) (a : Answer) → JobShape src m a → BeganAtMost src (file_count m)
 begun_at src m a (inl at) = record { count = 1; within = some_file m at.file at.named; begun = at.begun }
 begun_at src m a (inr (inl at)) = record { count = 2; within = both_files m at.file at.name at.job; begun = at.begun }
 begun_at src m a (inr (inr (inl at))) = at.begun
-begun_at src m a (inr (inr (inr at))) = record { count = 2; within = both_files m at.file at.name at.job; begun = at.begun }
+begun_at src m a (inr (inr (inr (inl at)))) = record { count = 2; within = both_files m at.file at.name at.job; begun = at.begun }
+begun_at src m a (inr (inr (inr (inr at)))) = record { count = 1; within = some_file m at.file (file_of_margin m at.rule at.file at.budget at.job); begun = at.begun }
 
 pub one_ballot_file : (m : Result Job WordFault) (file other : List ℕ) → BallotFile m file → BallotFile m other → file ≡ other
 one_ballot_file (Ok (Tally rule name)) file other a b = a ∙ sym b
-one_ballot_file (Ok (Margin rule name)) file other a b = a ∙ sym b
+one_ballot_file (Ok (Margin rule name budget)) file other a b = a ∙ sym b
 one_ballot_file (Ok (Check name cert)) file other a b = a ∙ sym b
 one_ballot_file (Ok (Show name)) file other a b = a ∙ sym b
 one_ballot_file (Err f) file other a b = absurd a

@@ -3,6 +3,8 @@ use Rattle.std.specs.Prelude.{◌≡◌, ◌⊎◌, ℕ, List, Ok, Err, codes}
 use Rattle.mov_edge.specs.Outside.{Rose, Took}
 use Rattle.ballot_csv.specs.BallotFile.{NamedPoll}
 use Rattle.ballot_csv.specs.declared.fault.BallotFault.{BallotFault}
+use Rattle.ballot_form.specs.declared.rule.Rule.{Rule}
+use Rattle.cert_text.specs.CertText.{CertText}
 use Rattle.margin_check.specs.Meanings.{ClaimIsTrue}
 use Rattle.margin_check.specs.Validity.{IsValidCert}
 use Rattle.margin_check.specs.Verdicts.{IsRefusal}
@@ -10,11 +12,14 @@ use Rattle.ballot_csv.specs.declared.limits.TheConstants.{LONGEST_FILE}
 use Rattle.cert_text.specs.declared.limits.TheConstants.{LONGEST_TEXT}
 use Rattle.mov_run.specs.Words.{IsNoCommand, file_count, meaning, BallotFile}
 use Rattle.cert_text.specs.declared.cert.Cert.{Cert}
+use Rattle.cert_text.specs.declared.cert.Claim.TheVariants as claim
+use Rattle.cert_text.specs.declared.cert.Stop.{Stop}
 use Rattle.cert_text.specs.declared.fault.CertFault.{CertFault}
 use Rattle.margin_check.specs.declared.verdict.Reason.{Reason}
+use Rattle.margin_solve.specs.Certificates.{IsCertOf}
 use Rattle.mov_run.specs.declared.jobs.WordFault.{WordFault}
 use Rattle.mov_run.specs.declared.runs.Output.{Output}
-use Rattle.mov_run.specs.Inputs.{Began, IsCertFile, IsContestFile, IsFaultyCert, IsLong, IsUnread, BeganAtMost, IsFaultyFile}
+use Rattle.mov_run.specs.Inputs.{Began, IsCertFile, IsContestFile, IsFaultyCert, IsLong, IsReadContest, IsUnread, BeganAtMost, IsFaultyFile}
 use Rattle.mov_run.specs.Run.{EndsWith, Outside, SaysLine, source_of}
 use Rattle.mov_run.specs.RunFaults.{line_of}
 use Rattle.mov_run.specs.Verdicts.{refused_text, valid_text}
@@ -22,7 +27,7 @@ use Rattle.mov_run.specs.declared.runs.Status.{Status}
 use Rattle.mov_edge.specs.Loads.{TookFirst}
 use Rattle.mov_run.specs.Jobs.{Allowed}
 use Rattle.mov_run.specs.Status.{IsEarlyEnd, IsWritten}
-use Rattle.mov_run.specs.declared.jobs.Job.TheVariants.{Check}
+use Rattle.mov_run.specs.declared.jobs.Job.TheVariants.{Check, Margin}
 use Rattle.mov_run.specs.declared.runs.Status.TheVariants.{Done, Bounds, Refused, Words, Ballots, Certificate, Read, Write, Memory}
 use Rattle.mov_run.specs.declared.run_faults.RunFault.TheVariants as run_fault
 
@@ -62,6 +67,26 @@ RefusalCause old new words = (name : List ℕ) × (k : NamedPoll) × (cert : Cer
     × WentOn old new words name k × IsCertFile (source_of old new) name cert × IsRefusal k.poll cert reason line
     × Took old.out.taken new.out.taken (refused_text reason line)
 
+-- why a run ends with bounds: a margin read an accepted ballot file and wrote a certificate of its contest whole, and
+-- that claims these bounds
+pub record BoundsCause (old new : Outside) (words : List (List ℕ)) : Type 0 where
+  pub rule : Rule
+  pub file : List ℕ
+  pub budget : ℕ
+  pub k : NamedPoll
+  pub cert : Cert
+  pub low : ℕ
+  pub up : ℕ
+  pub stop : Stop
+  pub text : List ℕ
+  pub job : meaning words ≡ Ok (Margin rule file budget)
+  pub contest : IsReadContest (source_of old new) file k
+  pub begun : Began (source_of old new) 1
+  pub found : IsCertOf rule budget k.poll cert
+  pub claimed : cert.claim ≡ claim.Bounds low up stop
+  pub spelled : CertText text cert
+  pub whole : Took old.out.taken new.out.taken text
+
 -- each status and its cause
 pub record Causes (old new : Outside) (words : List (List ℕ)) (s : Status) : Type 0 where
   pub words_only : s ≡ Words → (fault : WordFault) × (meaning words ≡ Err fault)
@@ -91,4 +116,4 @@ pub record Causes (old new : Outside) (words : List (List ℕ)) (s : Status) : T
       × Took old.out.taken new.out.taken text
   pub valid : s ≡ Done → (file name : List ℕ) → meaning words ≡ Ok (Check file name) → ValidCause old new words name
   pub refused : s ≡ Refused → RefusalCause old new words
-  pub no_bounds : s ≡ Bounds → ⊥
+  pub bounds : s ≡ Bounds → BoundsCause old new words

@@ -5,12 +5,11 @@ use Rattle.ballot_csv.specs.PlainForm.{plain_form}
 use Rattle.ballot_form.specs.declared.rule.Rule.{Rule}
 use Rattle.cert_text.specs.CertText.{CertText}
 use Rattle.margin_solve.specs.Certificates.{IsCertOf}
-use Rattle.margin_solve.specs.declared.limits.TheConstants.{DEFAULT_BUDGET}
 use Rattle.margin_check.specs.Meanings.{ClaimIsTrue}
 use Rattle.margin_check.specs.Validity.{IsValidCert}
 use Rattle.margin_check.specs.Verdicts.{IsRefusal}
 use Rattle.mov_run.specs.Tally.{IsTally}
-use Rattle.mov_run.specs.Status.{status_after}
+use Rattle.mov_run.specs.Status.{status_after, status_for}
 use Rattle.mov_run.specs.Verdicts.{verdict_text}
 use Rattle.mov_run.specs.Words.{IsNoCommand, file_count, meaning}
 use Rattle.cert_text.specs.declared.cert.Cert.{Cert}
@@ -68,10 +67,10 @@ abbrev pub IsTallied : Rule → NamedPoll → Answer → Type 0
 IsTallied rule k a = (text : List ℕ) × IsTally rule k text × (a ≡ Ok (record { ends = Done; text = text }))
 
 -- the answer of a margin: the text of its certificate
-abbrev pub IsCertified : Rule → NamedPoll → Answer → Type 0
-IsCertified rule k a =
-    (cert : Cert) × (text : List ℕ) × IsCertOf rule DEFAULT_BUDGET k.poll cert × CertText text cert
-    × (a ≡ Ok (record { ends = Done; text = text }))
+abbrev pub IsCertified : Rule → ℕ → NamedPoll → Answer → Type 0
+IsCertified rule budget k a =
+    (cert : Cert) × (text : List ℕ) × IsCertOf rule budget k.poll cert × CertText text cert
+    × (a ≡ Ok (record { ends = status_for cert.claim; text = text }))
 
 -- the answer of a check: the text of the verdict
 abbrev pub IsChecked : NamedPoll → Cert → Answer → Type 0
@@ -88,7 +87,7 @@ IsShown k a = a ≡ Ok (record { ends = Done; text = plain_form k })
 -- the answers of a job, want of memory aside
 abbrev pub Answers : Source → Job → Answer → Type 0
 Answers s (Tally rule file) a = OverBallots s file (IsTallied rule) a
-Answers s (Margin rule file) a = OverBallots s file (IsCertified rule) a
+Answers s (Margin rule file budget) a = OverBallots s file (IsCertified rule budget) a
 Answers s (Check file other) a = OverBoth s file other IsChecked a
 Answers s (Show file) a = OverBallots s file IsShown a
 

@@ -1,14 +1,16 @@
 -- What a run promises: what it leaves, and what follows from that for each command.
-use Rattle.std.specs.Prelude.{◌≡◌, ◌⊎◌, ◌<◌, ◌≤◌, ℕ, List, length, Ok, Err}
+use Rattle.std.specs.Prelude.{◌≡◌, ◌⊎◌, ◌<◌, ◌≤◌, ◌+◌, ◌*◌, ℕ, List, length, Ok, Err}
 use Rattle.mov_edge.specs.Outside.{Tells, Lacks, Rose}
 use Rattle.ballot_csv.specs.BallotFile.{IsFaulty, NamedPoll}
 use Rattle.ballot_csv.specs.PlainForm.{plain_form}
 use Rattle.ballot_csv.specs.declared.fault.BallotFault.{BallotFault}
+use Rattle.ballot_form.specs.declared.outcome.Outcome.{Outcome}
 use Rattle.ballot_form.specs.declared.rule.Rule.{Rule}
 use Rattle.cert_text.specs.CertReading.{cert_at}
 use Rattle.cert_text.specs.CertText.{CertText}
+use Rattle.goal_rows.specs.Goals.{IsDecidedByPairs}
+use Rattle.goal_rows.specs.Outcomes.{IsReported}
 use Rattle.margin_solve.specs.Certificates.{IsCertOf}
-use Rattle.margin_solve.specs.declared.limits.TheConstants.{DEFAULT_BUDGET}
 use Rattle.margin_check.specs.Meanings.{ClaimIsTrue}
 use Rattle.margin_check.specs.Validity.{IsValidCert}
 use Rattle.margin_check.specs.Verdicts.{IsRefusal}
@@ -19,8 +21,9 @@ use Rattle.mov_run.specs.Words.{meaning, BallotFile}
 use Rattle.cert_text.specs.declared.cert.Cert.{Cert}
 use Rattle.cert_text.specs.declared.fault.CertFault.{CertFault}
 use Rattle.margin_check.specs.declared.verdict.Reason.{Reason}
-use Rattle.mov_run.specs.Run.{EndsWith, IsDone, IsRefused, IsToldContest, IsUntroubled, Outside, Ran, IsToldCert}
+use Rattle.mov_run.specs.Run.{EndsWith, IsDone, IsRefused, IsToldContest, IsUntroubled, EndsWhole, Outside, Ran, IsToldCert}
 use Rattle.mov_run.specs.RunFaults.{line_of}
+use Rattle.mov_run.specs.Status.{status_for}
 use Rattle.mov_run.specs.Verdicts.{refused_text, valid_text}
 use Rattle.mov_run.specs.declared.runs.Status.{Status}
 use Rattle.mov_run.specs.Causes.{Causes}
@@ -79,13 +82,26 @@ pub record WritesVerdict (old new : Outside) (words : List (List ℕ)) (s : Stat
 
 -- ---- the other commands
 
--- the headline: `margin` of a told and accepted file under a rule that it knows writes the certificate of its contest
+-- the headline: `margin` of a told and accepted file under a rule, with a budget, writes the certificate of its
+-- contest, and the status says whether that claims bounds
 abbrev pub WritesMargin : Outside → Outside → List (List ℕ) → Status → Type 0
 WritesMargin old new words s =
-    (rule : Rule) (file : List ℕ) (k : NamedPoll) → meaning words ≡ Ok (Margin rule file) → IsToldContest old file k →
-    IsUntroubled old new s →
-    (cert : Cert) × (text : List ℕ) × IsCertOf rule DEFAULT_BUDGET k.poll cert × CertText text cert
-    × IsDone old new s text
+    (rule : Rule) (file : List ℕ) (budget : ℕ) (k : NamedPoll) → meaning words ≡ Ok (Margin rule file budget) →
+    IsToldContest old file k → IsUntroubled old new s →
+    (cert : Cert) × (text : List ℕ) × IsCertOf rule budget k.poll cert × CertText text cert
+    × EndsWhole old new s (status_for cert.claim) text
+
+-- the pairs of candidates decide what the rule reports of a contest, and a budget has room for the root and its pairs
+pub record HasPairRoom (rule : Rule) (budget : ℕ) (k : NamedPoll) : Type 0 where
+  pub pairs : (reported : Outcome) → IsReported rule k.poll reported → IsDecidedByPairs rule reported
+  pub room : 1 + k.poll.c * k.poll.c ≤ budget
+
+-- then no bounds are claimed, and all is well
+abbrev pub WritesPairMargin : Outside → Outside → List (List ℕ) → Status → Type 0
+WritesPairMargin old new words s =
+    (rule : Rule) (file : List ℕ) (budget : ℕ) (k : NamedPoll) → meaning words ≡ Ok (Margin rule file budget) →
+    IsToldContest old file k → IsUntroubled old new s → HasPairRoom rule budget k →
+    (cert : Cert) × (text : List ℕ) × IsCertOf rule budget k.poll cert × CertText text cert × IsDone old new s text
 
 -- `tally` of a told and accepted file under a rule writes the text of the tally of its contest
 abbrev pub WritesTally : Outside → Outside → List (List ℕ) → Status → Type 0
@@ -125,6 +141,7 @@ pub record Promised (old new : Outside) (words : List (List ℕ)) (s : Status) :
   pub ran : Ran old new words s
   pub tally : WritesTally old new words s
   pub margin : WritesMargin old new words s
+  pub pair_margin : WritesPairMargin old new words s
   pub check : WritesVerdict old new words s
   pub show : WritesPlain old new words s
   pub refuses : RefusesBallots old new words s

@@ -117,17 +117,19 @@ pub record IsToldCert (old : Outside) (name : List ℕ) (cert : Cert) : Type 0 w
   pub short : length bytes ≤ LONGEST_TEXT
   pub text : CertText bytes cert
 
--- the whole of this text went out, nothing else did, and all is well
-pub record IsDone (old new : Outside) (s : Status) (text : List ℕ) : Type 0 where
-  pub status : s ≡ Done
+-- the whole of this text went out, nothing else did, and the run ended with this status
+pub record EndsWhole (old new : Outside) (s ends : Status) (text : List ℕ) : Type 0 where
+  pub status : s ≡ ends
   pub whole : Took old.out.taken new.out.taken text
   pub quiet : new.err ≡ old.err
 
+-- the whole of this text went out, nothing else did, and all is well
+abbrev pub IsDone : Outside → Outside → Status → List ℕ → Type 0
+IsDone old new s text = EndsWhole old new s Done text
+
 -- the whole of a refusal went out, and nothing else did
-pub record IsRefused (old new : Outside) (s : Status) (text : List ℕ) : Type 0 where
-  pub status : s ≡ Refused
-  pub whole : Took old.out.taken new.out.taken text
-  pub quiet : new.err ≡ old.err
+abbrev pub IsRefused : Outside → Outside → Status → List ℕ → Type 0
+IsRefused old new s text = EndsWhole old new s Refused text
 
 -- the run ended with this status and this line, or for want of memory
 abbrev pub EndsWith : Outside → Outside → Status → Status → List ℕ → Type 0

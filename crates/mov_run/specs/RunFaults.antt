@@ -17,6 +17,7 @@ word_line_of word.UnknownRule = codes "mov: words: unknown rule\n"
 word_line_of word.BadSeats = codes "mov: words: bad seats\n"
 word_line_of word.SeatsMissing = codes "mov: words: seats missing\n"
 word_line_of word.SeatsUnwanted = codes "mov: words: seats unwanted\n"
+word_line_of word.BadBudget = codes "mov: words: bad budget\n"
 word_line_of word.Memory = codes "mov: out of memory\n"
 
 -- the line that says why a run ended early

@@ -1,5 +1,7 @@
 -- The statuses that a run ends with.
 use Rattle.std.specs.Prelude.{ℕ}
+use Rattle.cert_text.specs.declared.cert.Claim.{Claim}
+use Rattle.cert_text.specs.declared.cert.Claim.TheVariants as claim
 use Rattle.margin_check.specs.declared.verdict.Verdict.{Verdict}
 use Rattle.mov_run.specs.declared.run_faults.RunFault.{RunFault}
 use Rattle.mov_run.specs.declared.runs.Status.{Status}
@@ -32,6 +34,12 @@ status_of run_fault.Memory = Memory
 abbrev pub status_after : Verdict → Status
 status_after Valid = Done
 status_after (No reason line) = Refused
+
+-- the status of a run that wrote a certificate of this claim whole
+abbrev pub status_for : Claim → Status
+status_for (claim.Margin k) = Done
+status_for claim.Fixed = Done
+status_for (claim.Bounds low up stop) = Bounds
 
 -- the statuses of a run that stopped before the writing
 abbrev pub IsEarlyEnd : Status → Type 0

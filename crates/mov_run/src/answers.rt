@@ -1,7 +1,7 @@
 // The answer of each command.
-ghost use Rattle.std.specs.Prelude.{◌≡◌, IfOk};
+ghost use Rattle.std.specs.Prelude.{◌≡◌, ◌≤◌, IfOk};
 ghost use Rattle.ballot_form.specs.Rules.{IsRule};
-ghost use Rattle.margin_solve.specs.Certificates.{HasMargins};
+ghost use Rattle.cert_text.specs.declared.limits.TheConstants.{MOST_BUDGET};
 ghost use Rattle.mov_run.specs.Inputs.{found};
 ghost use Rattle.mov_run.specs.Jobs.{AnswersOrMemory};
 
@@ -10,12 +10,12 @@ use crate::loads::{load_cert, load_contest};
 use crate::run_faults::RunFault;
 use crate::runs::{Output, Status};
 use crate::tally::tally_text;
-use crate::verdicts::{verdict_status, verdict_text};
+use crate::verdicts::{claim_status, verdict_status, verdict_text};
 use ballot_csv::print_ballots;
 use ballot_form::{Rule, Text};
-use cert_text::print_cert;
+use cert_text::{MOST_BUDGET, print_cert};
 use margin_check::check;
-use margin_solve::{DEFAULT_BUDGET, margin};
+use margin_solve::margin;
 use mov_base::List;
 use mov_edge::Files;
 use std::alloc::Global;
@@ -45,19 +45,21 @@ pub(crate) fn margin_answer<F: Files>(
     alloc: Global,
     rule: Rule,
     file: &Text,
+    budget: u32,
     files: &mut F,
 ) -> Result<Output, RunFault>
     requires lawful { IsRule rule }
-    requires solved { HasMargins rule }
+    requires some { 1 ≤ budget }
+    requires most { budget ≤ MOST_BUDGET }
     ensures answers { AnswersOrMemory
-        (found F.told F.at F.begun F.faults files.old files.new) (Job.Margin rule file.now) result }
+        (found F.told F.at F.begun F.faults files.old files.new) (Job.Margin rule file.now budget) result }
     ensures told { F.told files.new ≡ F.told files.old }
     ensures kept { IfOk result (λ _. F.faults files.new ≡ F.faults files.old) }
 {
     let contest = load_contest(alloc, files, file)?;
-    let cert = margin(alloc, &contest, rule, DEFAULT_BUDGET)?;
+    let cert = margin(alloc, &contest, rule, budget)?;
     Ok(Output {
-        ends: Status::Done,
+        ends: claim_status(cert.claim),
         text: List::from_vec(print_cert(alloc, &cert)?),
     })
 }

@@ -3,7 +3,7 @@ ghost use Rattle.std.specs.Prelude.{◌≡◌, ◌∷◌, codes, map, string_byt
 ghost use Rattle.mov_run.specs.Words as words;
 ghost use Rattle.mov_run.specs.Words.{IsLawful, Reads};
 
-use crate::rules::rule_of;
+use crate::rules::{rule_of, search_of};
 use ballot_form::{Rule, RuleName, Text};
 use mov_base::Memory;
 use std::alloc::Global;
@@ -13,8 +13,8 @@ use std::alloc::Global;
 pub enum Job {
     /// Count the contest in a ballot file.
     Tally { rule: Rule, file: Text },
-    /// Find the margin of the contest in a ballot file.
-    Margin { rule: Rule, file: Text },
+    /// Find the margin of the contest in a ballot file, with a tree of at most so many nodes.
+    Margin { rule: Rule, file: Text, budget: u32 },
     /// Judge a certificate for the contest in a ballot file.
     Check { file: Text, cert: Text },
     /// Print a ballot file in its plain form.
@@ -30,7 +30,7 @@ pub enum WordFault {
     UnknownCommand,
     /// The words after the command aren't those that it takes.
     Line,
-    /// The rule isn't one that the command knows.
+    /// The rule is none of the five.
     UnknownRule,
     /// The seats aren't a number from 1 to 500.
     BadSeats,
@@ -38,6 +38,8 @@ pub enum WordFault {
     SeatsMissing,
     /// The rule has no seats, and some are named.
     SeatsUnwanted,
+    /// The budget isn't a number from 1 to 40,000.
+    BadBudget,
     /// There was no memory.
     Memory,
 }
@@ -98,7 +100,6 @@ fn tally_job(alloc: Global, words: &[String]) -> Result<Job, WordFault>
 }
 
 /// The job of the words after `margin`.
-#[tactic(auto, using(crate::proofs::Known::solved_name))]
 fn margin_job(alloc: Global, words: &[String]) -> Result<Job, WordFault>
     ensures reads { Reads (codes "margin" ∷ map string_bytes words.now) result }
     ensures lawful { IfOk result IsLawful }
@@ -109,21 +110,12 @@ fn margin_job(alloc: Global, words: &[String]) -> Result<Job, WordFault>
     let Some((file, options)) = rest.split_first() else {
         return Err(WordFault::Line);
     };
-    let rule = rule_of(known_name(RuleName::named(rule.as_bytes())), options)?;
+    let (rule, budget) = search_of(RuleName::named(rule.as_bytes()), options)?;
     Ok(Job::Margin {
         rule,
         file: Text::of(alloc, file.as_str())?,
+        budget,
     })
-}
-
-/// The name of a rule, if `margin` knows it.
-fn known_name(name: Option<RuleName>) -> Option<RuleName>
-    ensures { result ≡ words.known_name name }
-{
-    match name {
-        Some(RuleName::Irv) | Some(RuleName::Condorcet) => None,
-        _ => name,
-    }
 }
 
 /// The job of the words after `check`.

@@ -72,6 +72,7 @@ fn word_line(fault: WordFault) -> &'static str
         WordFault::BadSeats => "mov: words: bad seats\n",
         WordFault::SeatsMissing => "mov: words: seats missing\n",
         WordFault::SeatsUnwanted => "mov: words: seats unwanted\n",
+        WordFault::BadBudget => "mov: words: bad budget\n",
         WordFault::Memory => "mov: out of memory\n",
     }
 }

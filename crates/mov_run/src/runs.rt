@@ -144,7 +144,7 @@ fn answer<F: Files>(alloc: Global, words: &[String], files: &mut F) -> Result<Ou
 {
     match parse(alloc, words) {
         Ok(Job::Tally { rule, file }) => tally_answer(alloc, rule, &file, files),
-        Ok(Job::Margin { rule, file }) => margin_answer(alloc, rule, &file, files),
+        Ok(Job::Margin { rule, file, budget }) => margin_answer(alloc, rule, &file, budget, files),
         Ok(Job::Check { file, cert }) => check_answer(alloc, &file, &cert, files),
         Ok(Job::Show { file }) => show_answer(alloc, &file, files),
         Err(WordFault::Memory) => Err(RunFault::Memory),

@@ -1,10 +1,10 @@
-// The text of a verdict, and its status.
+// The text of a verdict, and the statuses of verdicts and claims.
 ghost use Rattle.std.specs.Prelude.{◌≡◌, ◌++◌, IfOk, OnOk};
 ghost use Rattle.mov_run.specs.Verdicts.{refused_text, valid_text, verdict_text as text_of};
-ghost use Rattle.mov_run.specs.Status.{status_after};
+ghost use Rattle.mov_run.specs.Status.{status_after, status_for};
 
 use crate::runs::Status;
-use cert_text::Cert;
+use cert_text::{Cert, Claim};
 use cert_text::written::{push_claim, push_rule};
 use margin_check::{Reason, Verdict};
 use mov_base::{List, Memory};
@@ -18,6 +18,16 @@ pub(crate) fn verdict_status(verdict: Verdict) -> Status
     match verdict {
         Verdict::Valid => Status::Done,
         Verdict::No { .. } => Status::Refused,
+    }
+}
+
+/// The status of a run that wrote a certificate of this claim whole.
+pub(crate) fn claim_status(claim: Claim) -> Status
+    ensures { result ≡ status_for claim }
+{
+    match claim {
+        Claim::Margin(_) | Claim::Fixed => Status::Done,
+        Claim::Bounds { .. } => Status::Bounds,
     }
 }
 
