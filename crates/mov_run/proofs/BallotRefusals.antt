@@ -92,7 +92,7 @@ at_shape old new words s file a d named (inr (inr (inr (inr bounds)))) =
     inr (inr (
       bounds.k,
       same_file old new words file bounds.file bounds.k (file_of_margin (meaning words) bounds.rule bounds.file bounds.budget bounds.job) named
-        (contest_of (source_of old new) bounds.file bounds.k bounds.contest),
+          (contest_of (source_of old new) bounds.file bounds.k bounds.contest),
       bounds_end old new words s bounds.text (delivered_ok old new s a o bounds.is d),
     ))
 

@@ -56,11 +56,14 @@ abbrev pub tally_with : Result Rule WordFault → List ℕ → Result Job WordFa
 tally_with (Err fault) file = Err fault
 tally_with (Ok rule) file = Ok (Tally rule file)
 
+-- the rule with the seats as two words
+abbrev pub rule_by : Option RuleName → List ℕ → List ℕ → Result Rule WordFault
+rule_by name option seats = if bytes_eq option (codes "--seats") then rule_with name (seats_named seats) else Err Line
+
 -- the rule that a name and the words after the file ask for: none of these, or the seats as two words
 abbrev pub rule_of : Option RuleName → List (List ℕ) → Result Rule WordFault
 rule_of name [] = rule_alone name
-rule_of name (option ∷ seats ∷ []) =
-    if bytes_eq option (codes "--seats") then rule_with name (seats_named seats) else Err Line
+rule_of name (option ∷ seats ∷ []) = rule_by name option seats
 rule_of name words = Err Line
 
 -- `tally`: a rule, a file, and perhaps seats
@@ -80,9 +83,9 @@ abbrev pub search_of : Option RuleName → List (List ℕ) → Result (Rule × �
 search_of name [] = search_with (rule_alone name) (Some DEFAULT_BUDGET)
 search_of name (option ∷ number ∷ []) =
     if bytes_eq option (codes "--budget") then search_with (rule_alone name) (budget_named number)
-    else search_with (rule_of name (option ∷ number ∷ [])) (Some DEFAULT_BUDGET)
+    else search_with (rule_by name option number) (Some DEFAULT_BUDGET)
 search_of name (option ∷ seats ∷ other ∷ budget ∷ []) =
-    if bytes_eq other (codes "--budget") then search_with (rule_of name (option ∷ seats ∷ [])) (budget_named budget)
+    if bytes_eq other (codes "--budget") then search_with (rule_by name option seats) (budget_named budget)
     else Err Line
 search_of name words = Err Line
 

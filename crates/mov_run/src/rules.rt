@@ -15,12 +15,22 @@ pub(crate) fn rule_of(name: Option<RuleName>, options: &[String]) -> Result<Rule
     ensures value { result ≡ words.rule_of name (map string_bytes options.now) }
     ensures lawful { IfOk result IsRule }
 {
-    let Some((option, rest)) = options.split_first() else {
-        return rule_alone(name);
-    };
-    match rest {
-        [seats] if option.as_str() == "--seats" => rule_with(name, seats.as_str()),
+    match options {
+        [] => rule_alone(name),
+        [option, seats] => rule_by(name, option.as_str(), seats.as_str()),
         _ => Err(WordFault::Line),
+    }
+}
+
+/// The rule of this name, with the seats as two words.
+fn rule_by(name: Option<RuleName>, option: &str, seats: &str) -> Result<Rule, WordFault>
+    ensures value { result ≡ words.rule_by name option.now seats.now }
+    ensures lawful { IfOk result IsRule }
+{
+    if option == "--seats" {
+        rule_with(name, seats)
+    } else {
+        Err(WordFault::Line)
     }
 }
 
@@ -64,22 +74,24 @@ pub(crate) fn search_of(
     ensures most { IfOk result (λ search. search.1 ≤ MOST_BUDGET) }
 {
     match options {
-        [option, number] if option.as_str() == "--budget" => {
-            search_with(rule_alone(name), budget_named(number.as_bytes()))
+        [] => search_with(rule_alone(name), Some(DEFAULT_BUDGET)),
+        [option, budget] if option.as_str() == "--budget" => {
+            search_with(rule_alone(name), budget_named(budget.as_bytes()))
         }
-        [_, _] | [] => search_with(rule_of(name, options), Some(DEFAULT_BUDGET)),
-        [_, _, option, number] if option.as_str() == "--budget" => {
-            search_with(rule_of(name, &options[..2]), budget_named(number.as_bytes()))
-        }
+        [option, seats] => search_with(
+            rule_by(name, option.as_str(), seats.as_str()),
+            Some(DEFAULT_BUDGET),
+        ),
+        [option, seats, other, budget] if other.as_str() == "--budget" => search_with(
+            rule_by(name, option.as_str(), seats.as_str()),
+            budget_named(budget.as_bytes()),
+        ),
         _ => Err(WordFault::Line),
     }
 }
 
 /// The rule, and the budget that is named. What is wrong with the rule comes first.
-fn search_with(
-    rule: Result<Rule, WordFault>,
-    budget: Option<u32>,
-) -> Result<(Rule, u32), WordFault>
+fn search_with(rule: Result<Rule, WordFault>, budget: Option<u32>) -> Result<(Rule, u32), WordFault>
     requires rule { IfOk rule IsRule }
     requires some { IfSome budget (λ b. 1 ≤ b) }
     requires most { IfSome budget (λ b. b ≤ MOST_BUDGET) }

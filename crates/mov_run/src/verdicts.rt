@@ -4,8 +4,8 @@ ghost use Rattle.mov_run.specs.Verdicts.{refused_text, valid_text, verdict_text 
 ghost use Rattle.mov_run.specs.Status.{status_after, status_for};
 
 use crate::runs::Status;
-use cert_text::{Cert, Claim};
 use cert_text::written::{push_claim, push_rule};
+use cert_text::{Cert, Claim};
 use margin_check::{Reason, Verdict};
 use mov_base::{List, Memory};
 use std::alloc::Global;

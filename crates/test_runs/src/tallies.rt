@@ -54,7 +54,7 @@ fn tallies_of_small_contests(rt: HostRuntime) -> Result<(), Fail> {
 
 #[test]
 fn what_is_wrong_with_the_words(rt: HostRuntime) -> Result<(), Fail> {
-    let table: [(&[&str], &[u8]); 16] = [
+    let table: [(&[&str], &[u8]); 21] = [
         (&["tally", "irv"], b"wrong arguments"),
         (&["tally", "dhondt", "F", "--seats"], b"wrong arguments"),
         (&["tally", "dhondt", "F", "--seat", "3"], b"wrong arguments"),
@@ -76,7 +76,15 @@ fn what_is_wrong_with_the_words(rt: HostRuntime) -> Result<(), Fail> {
         (&["tally", "irv", "F", "--seats", "65537"], b"bad seats"),
         (&["tally", "dhondt", "F"], b"seats missing"),
         (&["tally", "irv", "F", "--seats", "500"], b"seats unwanted"),
-        (&["margin", "irv", "F"], b"unknown rule"),
+        (&["margin", "irv"], b"wrong arguments"),
+        (
+            &["margin", "irv", "F", "--budget", "1", "--budget", "2"],
+            b"wrong arguments",
+        ),
+        (&["margin", "stv", "F"], b"unknown rule"),
+        (&["margin", "irv", "F", "--seats", "3"], b"seats unwanted"),
+        (&["margin", "irv", "F", "--budget", "0"], b"bad budget"),
+        (&["margin", "irv", "F", "--budget", "40001"], b"bad budget"),
     ];
     for (words, fault) in table {
         let alloc = rt.alloc();
