@@ -1,4 +1,4 @@
-//! Tests of the crates of texts: the ballot file, lines, certificates and tallies. Worked texts, tables of what is read and of
+//! Tests of the crates of texts: the ballot file, lines, certificates and the words of the command line. Worked texts, tables of what is read and of
 //! what is wrong with it, and each public call once on its happy path. It has no code of its own.
 #![tactic(auto)]
 
@@ -12,3 +12,5 @@ mod fault_texts;
 mod lines;
 #[cfg(test)]
 mod made;
+#[cfg(test)]
+mod words;

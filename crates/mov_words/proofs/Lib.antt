@@ -1,0 +1,3 @@
+pub mod CommandFacts
+pub mod FaultFacts
+pub mod Readings
