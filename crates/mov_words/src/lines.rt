@@ -1,8 +1,10 @@
 // The words after the first, read by the simple command of that word.
-ghost use Rattle.std.specs.Prelude.{◌≡◌, ◌≢◌, true, false, Some, codes, is_some, map, option_map, string_bytes, IfErr, IfOk, OnOk};
+ghost use Rattle.std.specs.Prelude.{◌≡◌, ◌≢◌, true, false, Some, codes, is_some, map, option_map, string_bytes};
+ghost use Rattle.std.specs.Prelude.{IfErr, IfOk, OnOk};
 ghost use Rattle.clap.specs.Words.{app_of, first_value, found_of, is_simple_and_free, IsParsedFrom};
 ghost use Rattle.clap.specs.declared.error.kind.ErrorKind.TheVariants as ErrorKind;
-ghost use Rattle.mov_words.specs.Commands.{check_app, drill_app, is_taken, margin_app, show_app, tally_app, value_in, HasValuesOf};
+ghost use Rattle.mov_words.specs.Commands.{check_app, drill_app, margin_app, show_app, tally_app};
+ghost use Rattle.mov_words.specs.Commands.{is_taken, value_in, HasValuesOf};
 ghost use Rattle.mov_words.specs.Faults.{OrMemory};
 ghost use Rattle.mov_words.specs.declared.fault.WordFault.TheVariants as WordFault;
 
@@ -69,8 +71,10 @@ pub(crate) fn margin_words<'a>(
     words: &'a [String],
 ) -> Result<MarginWords<'a>, WordFault>
     ensures taken { OnOk result (is_taken margin_app (map string_bytes words.now) ≡ true) }
-    ensures rule { IfOk result (λ w. value_in margin_app (map string_bytes words.now) (codes "rule") ≡ Some w.rule.now) }
-    ensures file { IfOk result (λ w. value_in margin_app (map string_bytes words.now) (codes "file") ≡ Some w.file.now) }
+    ensures rule { IfOk result (λ w. value_in margin_app (map string_bytes words.now) (codes "rule")
+        ≡ Some w.rule.now) }
+    ensures file { IfOk result (λ w. value_in margin_app (map string_bytes words.now) (codes "file")
+        ≡ Some w.file.now) }
     ensures seats { IfOk result (λ w. value_in margin_app (map string_bytes words.now) (codes "seats")
         ≡ option_map (λ s. s.now) w.seats) }
     ensures budget { IfOk result (λ w. value_in margin_app (map string_bytes words.now) (codes "budget")
@@ -137,7 +141,8 @@ pub(crate) fn show_word<'a>(alloc: Global, words: &'a [String]) -> Result<&'a st
 /// The word after `drill`: the text of a seed.
 pub(crate) fn drill_word<'a>(alloc: Global, words: &'a [String]) -> Result<&'a str, WordFault>
     ensures taken { OnOk result (is_taken drill_app (map string_bytes words.now) ≡ true) }
-    ensures seed { IfOk result (λ seed. value_in drill_app (map string_bytes words.now) (codes "seed") ≡ Some seed.now) }
+    ensures seed { IfOk result (λ seed. value_in drill_app (map string_bytes words.now) (codes "seed")
+        ≡ Some seed.now) }
     ensures err { IfErr result (λ fault. OrMemory fault
         ((fault ≡ WordFault.Line) × (is_taken drill_app (map string_bytes words.now) ≡ false))) }
 {

@@ -1,5 +1,6 @@
-//! Tests of the crates of texts: the ballot file, lines, certificates and the words of the command line. Worked texts, tables of what is read and of
-//! what is wrong with it, and each public call once on its happy path. It has no code of its own.
+//! Tests of the crates of texts: the ballot file, lines, certificates and the words of the command line. Worked
+//! texts, tables of what is read and of what is wrong with it, and each public call once on its happy path. It has no
+//! code of its own.
 #![tactic(auto)]
 
 #[cfg(test)]

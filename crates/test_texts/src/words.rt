@@ -105,18 +105,36 @@ fn the_first_fault_is_told(rt: HostRuntime) -> Result<(), Fail> {
         (&["drill", "-1"], WordFault::Line),
         (&["margin", "stv", "F"], WordFault::UnknownRule),
         (&["margin", "stv", "F", "--seats=0"], WordFault::UnknownRule),
-        (&["margin", "dhondt", "F", "--seats", "0"], WordFault::BadSeats),
-        (&["margin", "irv", "F", "--seats", "03"], WordFault::BadSeats),
-        (&["tally", "dhondt", "F", "--seats=501"], WordFault::BadSeats),
+        (
+            &["margin", "dhondt", "F", "--seats", "0"],
+            WordFault::BadSeats,
+        ),
+        (
+            &["margin", "irv", "F", "--seats", "03"],
+            WordFault::BadSeats,
+        ),
+        (
+            &["tally", "dhondt", "F", "--seats=501"],
+            WordFault::BadSeats,
+        ),
         (&["tally", "dhondt", "F", "--seats="], WordFault::BadSeats),
         (&["margin", "dhondt", "F"], WordFault::SeatsMissing),
         (
             &["margin", "dhondt", "F", "--budget=0"],
             WordFault::SeatsMissing,
         ),
-        (&["margin", "irv", "F", "--seats", "3"], WordFault::SeatsUnwanted),
-        (&["margin", "irv", "F", "--budget", "40001"], WordFault::BadBudget),
-        (&["margin", "irv", "F", "--budget", "0"], WordFault::BadBudget),
+        (
+            &["margin", "irv", "F", "--seats", "3"],
+            WordFault::SeatsUnwanted,
+        ),
+        (
+            &["margin", "irv", "F", "--budget", "40001"],
+            WordFault::BadBudget,
+        ),
+        (
+            &["margin", "irv", "F", "--budget", "0"],
+            WordFault::BadBudget,
+        ),
         (&["margin", "irv", "F", "--budget=+1"], WordFault::BadBudget),
         (&["drill", "01"], WordFault::BadSeed),
         (&["drill", "18446744073709551616"], WordFault::BadSeed),
