@@ -229,9 +229,22 @@ margins_by_search() {
     expect "a budget of one" 1 margin irv runoff.csv --budget 1
     printf 'VALID\nrule irv\nbounds 0 2 budget 1\n' >valid.text
     prints "a budget of one, checked" check runoff.csv stopped.cert <valid.text
+    valid "options before the file" runoff.cert 'rule irv\nmargin 1' runoff.csv irv --budget=9
     printf 'ballots,A\n7,A\n' >alone.csv
     printf '%s\n' "movcert 1" "rule irv" "size 1 7" "reported 0" "fixed" "split 0" >alone.cert
     valid "one candidate alone" alone.cert 'rule irv\nfixed' alone.csv irv
+}
+
+drills() {
+    prints "a drill" drill 7 <<'END'
+drill 7
+size 5 10000
+plurality margin 347 nodes 5
+borda margin 336 nodes 5
+condorcet margin 578 nodes 5
+dhondt 7 margin 88 nodes 17
+irv margin 578 nodes 52
+END
 }
 
 tallies_by_scores() {
@@ -393,7 +406,8 @@ word_faults() {
     word_fault "seats unwanted" margin plurality five-two.csv --seats 3
     word_fault "seats unwanted" margin irv five-two.csv --seats 3 --budget 0
     word_fault "wrong arguments" margin irv five-two.csv --budget 2 --budget 3
-    word_fault "wrong arguments" margin dhondt five-two.csv --budget 2 --seats 3
+    word_fault "wrong arguments" drill 7 7
+    word_fault "bad seed" drill 18446744073709551616
     word_fault "bad budget" margin irv five-two.csv --budget 40001
     word_fault "bad budget" margin dhondt five-two.csv --seats 3 --budget 0
     word_fault "bad budget" margin plurality five-two.csv --budget 01
@@ -715,6 +729,7 @@ many_kinds() {
 margins
 margins_of_pairs
 margins_by_search
+drills
 tallies_by_scores
 other_tallies
 forms_of_ballot_files

@@ -12,8 +12,8 @@ use Rattle.mov_run.specs.Causes.{ValidCause}
 use Rattle.mov_run.specs.Run.{Outside, source_of}
 use Rattle.mov_run.specs.Verdicts.{refused_text, valid_text, verdict_text}
 use Rattle.mov_run.specs.Status.{status_after}
-use Rattle.mov_run.specs.Words.{meaning}
-use Rattle.mov_run.specs.declared.jobs.Job.TheVariants.{Check}
+use Rattle.mov_words.specs.Words.{meaning}
+use Rattle.mov_words.specs.declared.jobs.Job.TheVariants.{Check}
 use Rattle.mov_run.specs.declared.runs.Output.{Output}
 use Rattle.mov_run.specs.declared.runs.Status.TheVariants.{Done, Refused}
 

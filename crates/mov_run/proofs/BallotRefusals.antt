@@ -1,4 +1,5 @@
 -- What a job ends with whose ballot file is told or known to be absent.
+use Rattle.mov_run.proofs.Shapes.{no_file_of_drill}
 use Rattle.std.proofs.Common.{ℕ, List, ◌≡◌, ◌≤◌, ◌<◌, ◌⊎◌, ◌∙◌, length, refl, sym, ap, subst, inl, inr, arith}
 use Rattle.std.specs.Prelude.{Ok}
 use Rattle.mov_edge.specs.Outside.{Lacks, Rose, Tells}
@@ -12,8 +13,8 @@ use Rattle.mov_run.specs.Run.{EndsWith, IsToldContest, Delivers, Outside, Ran, S
 use Rattle.mov_run.specs.RunFaults.{line_of}
 use Rattle.mov_run.specs.Status.{status_of}
 use Rattle.mov_run.specs.Verdicts.{refused_text}
-use Rattle.mov_run.specs.Words.{BallotFile, meaning}
-use Rattle.mov_run.specs.declared.jobs.Job.TheVariants.{Check}
+use Rattle.mov_words.specs.Words.{BallotFile, meaning}
+use Rattle.mov_words.specs.declared.jobs.Job.TheVariants.{Check}
 use Rattle.mov_run.specs.declared.runs.Output.{Output}
 use Rattle.mov_run.specs.declared.runs.Status.{Status}
 use Rattle.mov_run.specs.declared.runs.Status.TheVariants.{Done, Bounds, Refused, Certificate, Ballots, Read, Write, Memory}
@@ -87,7 +88,8 @@ at_shape old new words s file a d named (inr (inr (inr (inl refusal)))) =
       same_file old new words file refusal.file refusal.k (file_of_check (meaning words) refusal.file refusal.name refusal.job) named refusal.contest,
       refusal_end old new words s (refused_text refusal.reason refusal.line) (delivered_ok old new s a o refusal.is d),
     ))
-at_shape old new words s file a d named (inr (inr (inr (inr bounds)))) =
+at_shape old new words s file a d named (inr (inr (inr (inr (inr drill))))) = absurd (no_file_of_drill (meaning words) drill.seed file drill.job named)
+at_shape old new words s file a d named (inr (inr (inr (inr (inl bounds))))) =
     let o : Output = record { ends = Bounds; text = bounds.text } in
     inr (inr (
       bounds.k,

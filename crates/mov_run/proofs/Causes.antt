@@ -1,4 +1,9 @@
 -- Each status and its cause.
+use Rattle.std.specs.Prelude.{Bool, true, false}
+use Rattle.drill_text.specs.Drills.{IsDrill}
+use Rattle.mov_words.specs.declared.jobs.Job.TheVariants.{Drill}
+use Rattle.mov_run.specs.Status.{drill_status}
+use Rattle.mov_run.specs.Causes.{DrillCause}
 use Rattle.std.proofs.Common.{ℕ, List, ◌≡◌, ◌⊎◌, ◌∙◌, refl, ap, subst, inl, inr, arith}
 use Rattle.std.specs.Prelude.{Ok, Err, codes}
 use Rattle.mov_edge.specs.Loads.{TookFirst}
@@ -12,9 +17,9 @@ use Rattle.mov_run.specs.Status.{IsEarlyEnd, IsWritten, status_of}
 use Rattle.mov_run.specs.Run.{CutShort, Delivers, Outside, Ran, SaysLine, EndsEarly, Wrote, source_of, EndsWith}
 use Rattle.mov_run.specs.RunFaults.{line_of}
 use Rattle.mov_run.specs.Verdicts.{refused_text}
-use Rattle.mov_run.specs.Words.{BallotFile, IsNoCommand, file_count, meaning}
-use Rattle.mov_run.specs.declared.jobs.Job.{Job}
-use Rattle.mov_run.specs.declared.jobs.WordFault.{WordFault}
+use Rattle.mov_words.specs.Words.{BallotFile, IsNoCommand, file_count, meaning}
+use Rattle.mov_words.specs.declared.jobs.Job.{Job}
+use Rattle.mov_words.specs.declared.fault.WordFault.{WordFault}
 use Rattle.mov_run.specs.declared.runs.Output.{Output}
 use Rattle.mov_run.specs.declared.runs.Status.{Status}
 use Rattle.mov_run.specs.declared.runs.Status.TheVariants.{Done, Bounds, Refused, Words, Ballots, Certificate, Read, Write, Memory}
@@ -46,7 +51,7 @@ CauseAt old new words Write = Rose old.out.faults new.out.faults
 CauseAt old new words Done = Quiet old new
     × ((text : List ℕ) × Allowed (source_of old new) words (Ok (record { ends = Done; text = text })) × Took old.out.taken new.out.taken text)
 CauseAt old new words Refused = Quiet old new × RefusalCause old new words
-CauseAt old new words Bounds = Quiet old new × BoundsCause old new words
+CauseAt old new words Bounds = Quiet old new × (BoundsCause old new words ⊎ DrillCause old new words)
 
 silent_at : (old new : Outside) (words : List (List ℕ)) (s : Status) → IsEarlyEnd s → CauseAt old new words s → new.out ≡ old.out
 silent_at old new words Words e at = at.0
@@ -170,8 +175,16 @@ bounds_made old new words s a at allowed (inl w) =
       spelled = at.spelled;
       whole = w.1.whole;
     } in
-    rw w.0 (quiet_of old new at.text w.1, cause)
+    rw w.0 (quiet_of old new at.text w.1, inl cause)
 bounds_made old new words s a at allowed (inr c) = rw c.0 (cut_at old new words (record { ends = Bounds; text = at.text }) allowed c.1)
+
+drill_made : (old new : Outside) (words : List (List ℕ)) (s : Status) (seed : ℕ) (text : List ℕ) (stopped : Bool) → meaning words ≡ Ok (Drill seed) → Began (source_of old new) 0 → IsDrill seed text stopped
+    → Allowed (source_of old new) words (Ok (record { ends = drill_status stopped; text = text })) → Goes old new s (record { ends = drill_status stopped; text = text }) → CauseAt old new words s
+drill_made old new words s seed text false job begun drill allowed goes = text_made old new words s text allowed goes
+drill_made old new words s seed text true job begun drill allowed (inl w) =
+    let cause : DrillCause old new words = record { seed = seed; text = text; job = job; begun = begun; drill = drill; whole = w.1.whole } in
+    rw w.0 (quiet_of old new text w.1, inr cause)
+drill_made old new words s seed text true job begun drill allowed (inr c) = rw c.0 (cut_at old new words (record { ends = Bounds; text = text }) allowed c.1)
 
 job_cause : (old new : Outside) (words : List (List ℕ)) (s : Status) (a : Answer) → Allowed (source_of old new) words a → Delivers old new a s → JobShape (source_of old new) (meaning words) a
     → CauseAt old new words s
@@ -187,9 +200,12 @@ job_cause old new words s a allowed d (inr (inr (inl at))) =
 job_cause old new words s a allowed d (inr (inr (inr (inl at)))) =
     let o : Output = record { ends = Refused; text = refused_text at.reason at.line } in
     refusal_made old new words s a at (allowed_of old new words a o at.is allowed) (delivered_ok old new s a o at.is d)
-job_cause old new words s a allowed d (inr (inr (inr (inr at)))) =
+job_cause old new words s a allowed d (inr (inr (inr (inr (inl at))))) =
     let o : Output = record { ends = Bounds; text = at.text } in
     bounds_made old new words s a at (allowed_of old new words a o at.is allowed) (delivered_ok old new s a o at.is d)
+job_cause old new words s a allowed d (inr (inr (inr (inr (inr at))))) =
+    let o : Output = record { ends = drill_status at.stopped; text = at.text } in
+    drill_made old new words s at.seed at.text at.stopped at.job at.begun at.drill (allowed_of old new words a o at.is allowed) (delivered_ok old new s a o at.is d)
 
 pub causes : (old new : Outside) (words : List (List ℕ)) (s : Status) → Ran old new words s → Causes old new words s
 causes old new words s ran = elim (shape (source_of old new) (meaning words) ran.answer ran.allowed) [

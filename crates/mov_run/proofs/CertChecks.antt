@@ -19,7 +19,7 @@ use Rattle.mov_run.specs.Run.{IsToldCert, EndsWith, IsRefused, IsUntroubled, Out
 use Rattle.mov_run.specs.RunFaults.{line_of}
 use Rattle.mov_run.specs.Status.{status_of, status_after}
 use Rattle.mov_run.specs.Verdicts.{refused_text, valid_text, verdict_text}
-use Rattle.mov_run.specs.declared.jobs.Job.TheVariants.{Check}
+use Rattle.mov_words.specs.declared.jobs.Job.TheVariants.{Check}
 use Rattle.mov_run.specs.declared.runs.Output.{Output}
 use Rattle.mov_run.specs.declared.runs.Status.{Status}
 use Rattle.mov_run.specs.declared.runs.Status.TheVariants.{Done, Refused, Certificate, Read, Memory}

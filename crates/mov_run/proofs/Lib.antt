@@ -14,4 +14,4 @@ pub mod CertChecks
 pub mod Accepted
 pub mod Causes
 pub mod Promises
-pub mod Options
+pub mod Drilled

@@ -9,9 +9,9 @@ use Rattle.mov_run.specs.Jobs.{Answer, AnswersOrMemory, IsVerdict}
 use Rattle.mov_run.specs.Inputs.{Began, HasNoCert, IsCertFile, IsContestFile, IsFile, IsReadContest, IsReadFile, Shelf, Source}
 use Rattle.mov_run.specs.Status.{status_after}
 use Rattle.mov_run.specs.Verdicts.{verdict_text}
-use Rattle.mov_run.specs.Words.{file_count}
-use Rattle.mov_run.specs.declared.jobs.Job.{Job}
-use Rattle.mov_run.specs.declared.jobs.Job.TheVariants.{Check}
+use Rattle.mov_words.specs.Words.{file_count}
+use Rattle.mov_words.specs.declared.jobs.Job.{Job}
+use Rattle.mov_words.specs.declared.jobs.Job.TheVariants.{Check}
 use Rattle.mov_run.specs.declared.runs.Status.{Status}
 use Rattle.mov_run.specs.declared.run_faults.RunFault.{RunFault}
 use Rattle.mov_run.specs.declared.run_faults.RunFault.TheVariants.{Memory}

@@ -3,10 +3,10 @@ use Rattle.std.proofs.Common.{ℕ, List, inl, inr}
 use Rattle.ballot_csv.specs.BallotFile.{NamedPoll}
 use Rattle.ballot_csv.specs.PlainForm.{plain_form}
 use Rattle.mov_run.specs.Jobs.{Answers, IsCertified, IsShown, IsTallied}
-use Rattle.mov_run.specs.Promised.{Promised, WritesMargin, WritesPlain, WritesTally}
+use Rattle.mov_run.specs.Promised.{Promised, WritesDrill, WritesMargin, WritesPlain, WritesTally}
 use Rattle.mov_run.specs.Run.{Outside, Ran, source_of}
-use Rattle.mov_run.specs.Status.{status_for}
-use Rattle.mov_run.specs.declared.jobs.Job.TheVariants.{Tally, Margin, Show}
+use Rattle.mov_run.specs.Status.{drill_status, status_for}
+use Rattle.mov_words.specs.declared.jobs.Job.TheVariants.{Tally, Margin, Show, Drill}
 use Rattle.mov_run.specs.declared.runs.Status.{Status}
 use Rattle.mov_run.proofs.BallotRefusals.{refuses}
 use Rattle.mov_run.proofs.Causes.{causes}
@@ -41,6 +41,15 @@ writes_plain old new words s ran file k job told untroubled = elim ran.allowed [
       done_of old new s ran.answer (plain_form k) made ran.delivered untroubled
 ]
 
+writes_drill : (old new : Outside) (words : List (List ℕ)) (s : Status) → Ran old new words s → WritesDrill old new words s
+writes_drill old new words s ran seed job untroubled = elim ran.allowed [
+  | inr m ↦ absurd (untroubled.memory (memory_of old new s ran.answer m.0.0 ran.delivered))
+  | inl by ↦
+      let answers : Answers (source_of old new) (Drill seed) ran.answer = rw job at by in
+      let made = answers.0 in
+      (made.0, made.1, made.2, whole_of old new s (drill_status made.1) ran.answer made.0 made.3 ran.delivered untroubled)
+]
+
 pub promised : (old new : Outside) (words : List (List ℕ)) (s : Status) → Ran old new words s → Promised old new words s
 promised old new words s ran = record {
   ran = ran;
@@ -48,6 +57,7 @@ promised old new words s ran = record {
   margin = writes_margin old new words s ran;
   check = writes_verdict old new words s ran;
   show = writes_plain old new words s ran;
+  drill = writes_drill old new words s ran;
   refuses = refuses old new words s ran;
   causes = causes old new words s ran;
 }

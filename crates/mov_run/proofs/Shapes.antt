@@ -1,4 +1,8 @@
 -- How an answer looks.
+use Rattle.std.specs.Prelude.{Bool}
+use Rattle.drill_text.specs.Drills.{IsDrill}
+use Rattle.mov_words.specs.declared.jobs.Job.TheVariants.{Drill}
+use Rattle.mov_run.specs.Status.{drill_status}
 use Rattle.std.proofs.Common.{ℕ, List, ◌≡◌, ◌≤◌, ◌⊎◌, ◌∙◌, refl, sym, inl, inr, arith}
 use Rattle.std.specs.Prelude.{Result, Ok, Err}
 use Rattle.ballot_csv.specs.BallotFile.{NamedPoll}
@@ -18,10 +22,10 @@ use Rattle.mov_run.specs.Jobs.{Answer, Answers, AnswersWords, IsCertified, IsChe
 use Rattle.mov_run.specs.Inputs.{Began, BeganAtMost, HasNoCert, HasNoContest, IsCertFile, IsContestFile, IsReadContest, Source}
 use Rattle.mov_run.specs.Verdicts.{refused_text, valid_text, verdict_text}
 use Rattle.mov_run.specs.Status.{status_after, status_for}
-use Rattle.mov_run.specs.Words.{BallotFile, IsNoCommand, file_count}
-use Rattle.mov_run.specs.declared.jobs.Job.{Job}
-use Rattle.mov_run.specs.declared.jobs.Job.TheVariants.{Tally, Margin, Check, Show}
-use Rattle.mov_run.specs.declared.jobs.WordFault.{WordFault}
+use Rattle.mov_words.specs.Words.{BallotFile, IsNoCommand, file_count}
+use Rattle.mov_words.specs.declared.jobs.Job.{Job}
+use Rattle.mov_words.specs.declared.jobs.Job.TheVariants.{Tally, Margin, Check, Show}
+use Rattle.mov_words.specs.declared.fault.WordFault.{WordFault}
 use Rattle.mov_run.specs.declared.runs.Status.TheVariants.{Done, Bounds, Refused}
 use Rattle.mov_run.specs.declared.run_faults.RunFault.{RunFault}
 use Rattle.mov_run.specs.declared.run_faults.RunFault.TheVariants as run_fault
@@ -94,8 +98,18 @@ pub record AtBounds (src : Source) (m : Result Job WordFault) (a : Answer) : Typ
   pub spelled : CertText text cert
   pub is : a ≡ Ok (record { ends = Bounds; text = text })
 
+-- the summary of a drill is made
+pub record AtDrill (src : Source) (m : Result Job WordFault) (a : Answer) : Type 0 where
+  pub seed : ℕ
+  pub text : List ℕ
+  pub stopped : Bool
+  pub job : m ≡ Ok (Drill seed)
+  pub begun : Began src 0
+  pub drill : IsDrill seed text stopped
+  pub is : a ≡ Ok (record { ends = drill_status stopped; text = text })
+
 abbrev pub JobShape : Source → Result Job WordFault → Answer → Type 0
-JobShape src m a = AtBallots src m a ⊎ AtCert src m a ⊎ AtText src m a ⊎ AtRefusal src m a ⊎ AtBounds src m a
+JobShape src m a = AtBallots src m a ⊎ AtCert src m a ⊎ AtText src m a ⊎ AtRefusal src m a ⊎ AtBounds src m a ⊎ AtDrill src m a
 
 contest_shape : (src : Source) (m : Result Job WordFault) (file : List ℕ) (next : NamedPoll → Answer → Type 0) (a : Answer) → BallotFile m file
     → ((k : NamedPoll) → next k a → JobShape src m a) → OverContest src file next a → JobShape src m a
@@ -152,7 +166,7 @@ claim_shape src rule file budget k a cert text (claim.Margin n) contest begun fo
     text_shape src (Ok (Margin rule file budget)) file k a text refl (contest_of src file k contest) (record { count = 1; within = omega arith; begun = begun }) is
 claim_shape src rule file budget k a cert text claim.Fixed contest begun found spelled claimed is =
     text_shape src (Ok (Margin rule file budget)) file k a text refl (contest_of src file k contest) (record { count = 1; within = omega arith; begun = begun }) is
-claim_shape src rule file budget k a cert text (claim.Bounds low up stop) contest begun found spelled claimed is = inr (inr (inr (inr (record {
+claim_shape src rule file budget k a cert text (claim.Bounds low up stop) contest begun found spelled claimed is = inr (inr (inr (inr (inl (record {
   rule = rule;
   file = file;
   budget = budget;
@@ -169,7 +183,7 @@ claim_shape src rule file budget k a cert text (claim.Bounds low up stop) contes
   claimed = claimed;
   spelled = spelled;
   is = is;
-}))))
+})))))
 
 margin_shape : (src : Source) (rule : Rule) (file : List ℕ) (budget : ℕ) (k : NamedPoll) (a : Answer) → IsReadContest src file k → Began src 1 → IsCertified rule budget k a
     → JobShape src (Ok (Margin rule file budget)) a
@@ -184,6 +198,15 @@ job_shape src (Check file name) a by =
     contest_shape src (Ok (Check file name)) file (λ k a. IsContestFile src file k × Began src 2 × OverCert src name (λ cert a. IsChecked k cert a) a) a refl
     (λ k over. cert_shape src file name k a over.0 over.1 over.2) by
 job_shape src (Show file) a by = ballots_shape src (Ok (Show file)) file IsShown a refl (omega arith) (λ k made. (plain_form k, made)) by
+job_shape src (Drill seed) a by = inr (inr (inr (inr (inr (record {
+  seed = seed;
+  text = by.0.0;
+  stopped = by.0.1;
+  job = refl;
+  begun = by.1;
+  drill = by.0.2;
+  is = by.0.3;
+})))))
 
 -- ---- the answer to words
 
@@ -205,6 +228,7 @@ some_file (Ok (Tally rule name)) file named = omega arith
 some_file (Ok (Margin rule name budget)) file named = omega arith
 some_file (Ok (Check name cert)) file named = omega arith
 some_file (Ok (Show name)) file named = omega arith
+some_file (Ok (Drill seed)) file named = absurd named
 some_file (Err f) file named = absurd named
 
 both_files : (m : Result Job WordFault) (file name : List ℕ) → m ≡ Ok (Check file name) → 2 ≤ file_count m
@@ -219,13 +243,19 @@ begun_at src m a (inl at) = record { count = 1; within = some_file m at.file at.
 begun_at src m a (inr (inl at)) = record { count = 2; within = both_files m at.file at.name at.job; begun = at.begun }
 begun_at src m a (inr (inr (inl at))) = at.begun
 begun_at src m a (inr (inr (inr (inl at)))) = record { count = 2; within = both_files m at.file at.name at.job; begun = at.begun }
-begun_at src m a (inr (inr (inr (inr at)))) = record { count = 1; within = some_file m at.file (file_of_margin m at.rule at.file at.budget at.job); begun = at.begun }
+begun_at src m a (inr (inr (inr (inr (inl at))))) = record { count = 1; within = some_file m at.file (file_of_margin m at.rule at.file at.budget at.job); begun = at.begun }
+begun_at src m a (inr (inr (inr (inr (inr at))))) = record { count = 0; within = omega arith; begun = at.begun }
+
+-- a drill begins none
+pub no_file_of_drill : (m : Result Job WordFault) (seed : ℕ) (file : List ℕ) → m ≡ Ok (Drill seed) → BallotFile m file → ⊥
+no_file_of_drill m seed file is named = rw is at named
 
 pub one_ballot_file : (m : Result Job WordFault) (file other : List ℕ) → BallotFile m file → BallotFile m other → file ≡ other
 one_ballot_file (Ok (Tally rule name)) file other a b = a ∙ sym b
 one_ballot_file (Ok (Margin rule name budget)) file other a b = a ∙ sym b
 one_ballot_file (Ok (Check name cert)) file other a b = a ∙ sym b
 one_ballot_file (Ok (Show name)) file other a b = a ∙ sym b
+one_ballot_file (Ok (Drill seed)) file other a b = absurd a
 one_ballot_file (Err f) file other a b = absurd a
 
 pub file_of_check : (m : Result Job WordFault) (file name : List ℕ) → m ≡ Ok (Check file name) → BallotFile m file

@@ -1,5 +1,5 @@
 -- Each status and its cause.
-use Rattle.std.specs.Prelude.{◌≡◌, ◌⊎◌, ℕ, List, Ok, Err, codes}
+use Rattle.std.specs.Prelude.{true, ◌≡◌, ◌⊎◌, ℕ, List, Ok, Err, codes}
 use Rattle.mov_edge.specs.Outside.{Rose, Took}
 use Rattle.ballot_csv.specs.BallotFile.{NamedPoll}
 use Rattle.ballot_csv.specs.declared.fault.BallotFault.{BallotFault}
@@ -10,14 +10,15 @@ use Rattle.margin_check.specs.Validity.{IsValidCert}
 use Rattle.margin_check.specs.Verdicts.{IsRefusal}
 use Rattle.ballot_csv.specs.declared.limits.TheConstants.{LONGEST_FILE}
 use Rattle.cert_text.specs.declared.limits.TheConstants.{LONGEST_TEXT}
-use Rattle.mov_run.specs.Words.{IsNoCommand, file_count, meaning, BallotFile}
+use Rattle.mov_words.specs.Words.{IsNoCommand, file_count, meaning, BallotFile}
 use Rattle.cert_text.specs.declared.cert.Cert.{Cert}
 use Rattle.cert_text.specs.declared.cert.Claim.TheVariants as claim
 use Rattle.cert_text.specs.declared.cert.Stop.{Stop}
 use Rattle.cert_text.specs.declared.fault.CertFault.{CertFault}
 use Rattle.margin_check.specs.declared.verdict.Reason.{Reason}
+use Rattle.drill_text.specs.Drills.{IsDrill}
 use Rattle.margin_solve.specs.Certificates.{IsCertOf}
-use Rattle.mov_run.specs.declared.jobs.WordFault.{WordFault}
+use Rattle.mov_words.specs.declared.fault.WordFault.{WordFault}
 use Rattle.mov_run.specs.declared.runs.Output.{Output}
 use Rattle.mov_run.specs.Inputs.{Began, IsCertFile, IsContestFile, IsFaultyCert, IsLong, IsReadContest, IsUnread, BeganAtMost, IsFaultyFile}
 use Rattle.mov_run.specs.Run.{EndsWith, Outside, SaysLine, source_of}
@@ -27,7 +28,7 @@ use Rattle.mov_run.specs.declared.runs.Status.{Status}
 use Rattle.mov_edge.specs.Loads.{TookFirst}
 use Rattle.mov_run.specs.Jobs.{Allowed}
 use Rattle.mov_run.specs.Status.{IsEarlyEnd, IsWritten}
-use Rattle.mov_run.specs.declared.jobs.Job.TheVariants.{Check, Margin}
+use Rattle.mov_words.specs.declared.jobs.Job.TheVariants.{Check, Margin, Drill}
 use Rattle.mov_run.specs.declared.runs.Status.TheVariants.{Done, Bounds, Refused, Words, Ballots, Certificate, Read, Write, Memory}
 use Rattle.mov_run.specs.declared.run_faults.RunFault.TheVariants as run_fault
 
@@ -87,6 +88,15 @@ pub record BoundsCause (old new : Outside) (words : List (List ℕ)) : Type 0 wh
   pub spelled : CertText text cert
   pub whole : Took old.out.taken new.out.taken text
 
+-- or a drill wrote its summary whole, and some claim in it is bounds
+pub record DrillCause (old new : Outside) (words : List (List ℕ)) : Type 0 where
+  pub seed : ℕ
+  pub text : List ℕ
+  pub job : meaning words ≡ Ok (Drill seed)
+  pub begun : Began (source_of old new) 0
+  pub drill : IsDrill seed text true
+  pub whole : Took old.out.taken new.out.taken text
+
 -- each status and its cause
 pub record Causes (old new : Outside) (words : List (List ℕ)) (s : Status) : Type 0 where
   pub words_only : s ≡ Words → (fault : WordFault) × (meaning words ≡ Err fault)
@@ -116,4 +126,4 @@ pub record Causes (old new : Outside) (words : List (List ℕ)) (s : Status) : T
       × Took old.out.taken new.out.taken text
   pub valid : s ≡ Done → (file name : List ℕ) → meaning words ≡ Ok (Check file name) → ValidCause old new words name
   pub refused : s ≡ Refused → RefusalCause old new words
-  pub bounds : s ≡ Bounds → BoundsCause old new words
+  pub bounds : s ≡ Bounds → BoundsCause old new words ⊎ DrillCause old new words

@@ -1,5 +1,5 @@
 -- Which answers a job allows.
-use Rattle.std.specs.Prelude.{◌≡◌, ◌⊎◌, ◌↔◌, ℕ, List, Result, Ok, Err}
+use Rattle.std.specs.Prelude.{Bool, ◌≡◌, ◌⊎◌, ◌↔◌, ℕ, List, Result, Ok, Err}
 use Rattle.ballot_csv.specs.BallotFile.{NamedPoll}
 use Rattle.ballot_csv.specs.PlainForm.{plain_form}
 use Rattle.ballot_form.specs.declared.rule.Rule.{Rule}
@@ -9,19 +9,20 @@ use Rattle.margin_check.specs.Meanings.{ClaimIsTrue}
 use Rattle.margin_check.specs.Validity.{IsValidCert}
 use Rattle.margin_check.specs.Verdicts.{IsRefusal}
 use Rattle.mov_run.specs.Tally.{IsTally}
-use Rattle.mov_run.specs.Status.{status_after, status_for}
+use Rattle.drill_text.specs.Drills.{IsDrill}
+use Rattle.mov_run.specs.Status.{drill_status, status_after, status_for}
 use Rattle.mov_run.specs.Verdicts.{verdict_text}
-use Rattle.mov_run.specs.Words.{IsNoCommand, file_count, meaning}
+use Rattle.mov_words.specs.Words.{IsNoCommand, file_count, meaning}
 use Rattle.cert_text.specs.declared.cert.Cert.{Cert}
 use Rattle.margin_check.specs.declared.verdict.Verdict.{Verdict}
 use Rattle.margin_check.specs.declared.verdict.Reason.{Reason}
-use Rattle.mov_run.specs.declared.jobs.Job.{Job}
-use Rattle.mov_run.specs.declared.jobs.WordFault.{WordFault}
+use Rattle.mov_words.specs.declared.jobs.Job.{Job}
+use Rattle.mov_words.specs.declared.fault.WordFault.{WordFault}
 use Rattle.mov_run.specs.declared.runs.Output.{Output}
 use Rattle.mov_run.specs.declared.run_faults.RunFault.{RunFault}
 use Rattle.mov_run.specs.Inputs.{Began, IsCertFile, IsContestFile, BeganAtMost, Source, IsReadContest, HasNoContest, HasNoCert}
 use Rattle.margin_check.specs.declared.verdict.Verdict.TheVariants.{No, Valid}
-use Rattle.mov_run.specs.declared.jobs.Job.TheVariants.{Tally, Margin, Check, Show}
+use Rattle.mov_words.specs.declared.jobs.Job.TheVariants.{Tally, Margin, Check, Show, Drill}
 use Rattle.mov_run.specs.declared.runs.Status.TheVariants.{Done}
 use Rattle.mov_run.specs.declared.run_faults.RunFault.TheVariants.{Memory, Words}
 
@@ -82,6 +83,12 @@ IsChecked k cert a =
 abbrev pub IsShown : NamedPoll → Answer → Type 0
 IsShown k a = a ≡ Ok (record { ends = Done; text = plain_form k })
 
+-- the answer of a drill: its summary
+abbrev pub IsDrilled : ℕ → Answer → Type 0
+IsDrilled seed a =
+    (text : List ℕ) × (stopped : Bool) × IsDrill seed text stopped
+    × (a ≡ Ok (record { ends = drill_status stopped; text = text }))
+
 -- ---- all answers
 
 -- the answers of a job, want of memory aside
@@ -90,6 +97,7 @@ Answers s (Tally rule file) a = OverBallots s file (IsTallied rule) a
 Answers s (Margin rule file budget) a = OverBallots s file (IsCertified rule budget) a
 Answers s (Check file other) a = OverBoth s file other IsChecked a
 Answers s (Show file) a = OverBallots s file IsShown a
+Answers s (Drill seed) a = IsDrilled seed a × Began s 0
 
 -- there was no memory, and at most so many files were begun
 abbrev pub IsOutOfMemory : Source → ℕ → Answer → Type 0

@@ -1,4 +1,3 @@
-pub mod Words
 pub mod Tally
 pub mod Verdicts
 pub mod RunFaults

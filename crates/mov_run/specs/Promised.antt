@@ -1,5 +1,5 @@
 -- What a run promises: what it leaves, and what follows from that for each command.
-use Rattle.std.specs.Prelude.{◌≡◌, ◌⊎◌, ◌<◌, ◌≤◌, ℕ, List, length, Ok, Err}
+use Rattle.std.specs.Prelude.{Bool, ◌≡◌, ◌⊎◌, ◌<◌, ◌≤◌, ℕ, List, length, Ok, Err}
 use Rattle.mov_edge.specs.Outside.{Tells, Lacks, Rose}
 use Rattle.ballot_csv.specs.BallotFile.{IsFaulty, NamedPoll}
 use Rattle.ballot_csv.specs.PlainForm.{plain_form}
@@ -14,17 +14,18 @@ use Rattle.margin_check.specs.Verdicts.{IsRefusal}
 use Rattle.ballot_csv.specs.declared.limits.TheConstants.{LONGEST_FILE}
 use Rattle.cert_text.specs.declared.limits.TheConstants.{LONGEST_TEXT}
 use Rattle.mov_run.specs.Tally.{IsTally}
-use Rattle.mov_run.specs.Words.{meaning, BallotFile}
+use Rattle.mov_words.specs.Words.{meaning, BallotFile}
 use Rattle.cert_text.specs.declared.cert.Cert.{Cert}
 use Rattle.cert_text.specs.declared.fault.CertFault.{CertFault}
 use Rattle.margin_check.specs.declared.verdict.Reason.{Reason}
 use Rattle.mov_run.specs.Run.{EndsWith, IsDone, IsRefused, IsToldContest, IsUntroubled, EndsWhole, Outside, Ran, IsToldCert}
 use Rattle.mov_run.specs.RunFaults.{line_of}
-use Rattle.mov_run.specs.Status.{status_for}
+use Rattle.drill_text.specs.Drills.{IsDrill}
+use Rattle.mov_run.specs.Status.{drill_status, status_for}
 use Rattle.mov_run.specs.Verdicts.{refused_text, valid_text}
 use Rattle.mov_run.specs.declared.runs.Status.{Status}
 use Rattle.mov_run.specs.Causes.{Causes}
-use Rattle.mov_run.specs.declared.jobs.Job.TheVariants.{Tally, Margin, Check, Show}
+use Rattle.mov_words.specs.declared.jobs.Job.TheVariants.{Tally, Margin, Check, Show, Drill}
 use Rattle.mov_run.specs.declared.runs.Status.TheVariants.{Ballots, Certificate, Read}
 use Rattle.mov_run.specs.declared.run_faults.RunFault.TheVariants as run_fault
 
@@ -102,6 +103,13 @@ WritesPlain old new words s =
     IsUntroubled old new s →
     IsDone old new s (plain_form k)
 
+-- `drill` writes the summary of its seed, and the status says whether some claim in it is bounds
+abbrev pub WritesDrill : Outside → Outside → List (List ℕ) → Status → Type 0
+WritesDrill old new words s =
+    (seed : ℕ) → meaning words ≡ Ok (Drill seed) → IsUntroubled old new s →
+    (text : List ℕ) × (stopped : Bool) × IsDrill seed text stopped
+    × EndsWhole old new s (drill_status stopped) text
+
 -- the job has a certificate file, and it is known to be absent
 abbrev pub LacksCert : Outside → List (List ℕ) → Type 0
 LacksCert old words = (file : List ℕ) × (name : List ℕ) × (meaning words ≡ Ok (Check file name))
@@ -128,5 +136,6 @@ pub record Promised (old new : Outside) (words : List (List ℕ)) (s : Status) :
   pub margin : WritesMargin old new words s
   pub check : WritesVerdict old new words s
   pub show : WritesPlain old new words s
+  pub drill : WritesDrill old new words s
   pub refuses : RefusesBallots old new words s
   pub causes : Causes old new words s

@@ -4,9 +4,9 @@ use Rattle.mov_edge.specs.Outside.{Tells, Rose, Took}
 use Rattle.ballot_csv.specs.BallotFile.{IsAccepted, NamedPoll}
 use Rattle.cert_text.specs.CertText.{CertText}
 use Rattle.cert_text.specs.declared.limits.TheConstants.{LONGEST_TEXT}
-use Rattle.mov_run.specs.Words.{meaning}
+use Rattle.mov_words.specs.Words.{meaning}
 use Rattle.cert_text.specs.declared.cert.Cert.{Cert}
-use Rattle.mov_run.specs.declared.jobs.WordFault.{WordFault}
+use Rattle.mov_words.specs.declared.fault.WordFault.{WordFault}
 use Rattle.mov_run.specs.declared.runs.Output.{Output}
 use Rattle.mov_run.specs.declared.run_faults.RunFault.{RunFault}
 use Rattle.mov_run.specs.RunFaults.{line_of}

@@ -1,5 +1,5 @@
 -- The statuses that a run ends with.
-use Rattle.std.specs.Prelude.{ℕ}
+use Rattle.std.specs.Prelude.{ℕ, Bool, true, false}
 use Rattle.cert_text.specs.declared.cert.Claim.{Claim}
 use Rattle.cert_text.specs.declared.cert.Claim.TheVariants as claim
 use Rattle.margin_check.specs.declared.verdict.Verdict.{Verdict}
@@ -40,6 +40,11 @@ abbrev pub status_for : Claim → Status
 status_for (claim.Margin k) = Done
 status_for claim.Fixed = Done
 status_for (claim.Bounds low up stop) = Bounds
+
+-- the status of a run that wrote the summary of a drill whole, where some claim in it is bounds, or none is
+abbrev pub drill_status : Bool → Status
+drill_status true = Bounds
+drill_status false = Done
 
 -- the statuses of a run that stopped before the writing
 abbrev pub IsEarlyEnd : Status → Type 0

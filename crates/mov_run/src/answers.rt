@@ -1,23 +1,25 @@
 // The answer of each command.
-ghost use Rattle.std.specs.Prelude.{◌≡◌, ◌≤◌, IfOk};
+ghost use Rattle.std.specs.Prelude.{◌⊎◌, Err, ◌≡◌, ◌≤◌, IfOk};
 ghost use Rattle.ballot_form.specs.Rules.{IsRule};
 ghost use Rattle.cert_text.specs.declared.limits.TheConstants.{MOST_BUDGET};
 ghost use Rattle.mov_run.specs.Inputs.{found};
-ghost use Rattle.mov_run.specs.Jobs.{AnswersOrMemory};
+ghost use Rattle.mov_run.specs.Jobs.{AnswersOrMemory, IsDrilled};
+ghost use Rattle.mov_run.specs.declared.run_faults.RunFault.TheVariants as Fault;
 
-use crate::jobs::Job;
 use crate::loads::{load_cert, load_contest};
 use crate::run_faults::RunFault;
 use crate::runs::{Output, Status};
 use crate::tally::tally_text;
-use crate::verdicts::{claim_status, verdict_status, verdict_text};
+use crate::verdicts::{claim_status, drill_status, verdict_status, verdict_text};
 use ballot_csv::print_ballots;
 use ballot_form::{Rule, Text};
 use cert_text::{MOST_BUDGET, print_cert};
+use drill_text::drill_text;
 use margin_check::check;
 use margin_solve::margin;
 use mov_base::List;
 use mov_edge::Files;
+use mov_words::Job;
 use std::alloc::Global;
 
 /// The tally of the contest in a ballot file.
@@ -100,5 +102,16 @@ pub(crate) fn show_answer<F: Files>(
     Ok(Output {
         ends: Status::Done,
         text: List::from_vec(print_ballots(alloc, &contest)?),
+    })
+}
+
+/// The summary of the drill of a seed.
+pub(crate) fn drill_answer(alloc: Global, seed: u64) -> Result<Output, RunFault>
+    ensures { IsDrilled seed result ⊎ (result ≡ Err Fault.Memory) }
+{
+    let (text, stopped) = drill_text(alloc, seed)?;
+    Ok(Output {
+        ends: drill_status(stopped),
+        text: List::from_vec(text),
     })
 }

@@ -7,10 +7,8 @@
 #![tactic(auto)]
 
 mod answers;
-mod jobs;
 mod laws;
 mod loads;
-mod rules;
 mod run_faults;
 mod runs;
 mod tally;
@@ -20,8 +18,8 @@ mod tally_scores;
 mod tally_seats;
 mod verdicts;
 
-pub use jobs::{Job, WordFault, parse};
 pub use laws::a_tally_is_one_text;
+pub use mov_words::{Job, WordFault, parse};
 pub use run_faults::RunFault;
 pub use runs::{Output, Status, run};
 pub use tally::tally_text;

@@ -1,16 +1,16 @@
 // Why a run stops before its text is whole, and the line that says so.
 ghost use Rattle.std.specs.Prelude.{◌≡◌, ◌++◌, codes, decimal};
 ghost use Rattle.mov_run.specs.Run.{Says, WritesAll};
-ghost use Rattle.mov_run.specs.RunFaults.{line_of, word_line_of};
+ghost use Rattle.mov_run.specs.RunFaults.{line_of};
 ghost use Rattle.mov_run.specs.declared.run_faults.RunFault.TheVariants.{Memory};
 
-use crate::jobs::WordFault;
 use ballot_csv::{BallotFault, LONGEST_FILE};
 use ballot_form::Text;
 use cert_text::{CertFault, LONGEST_TEXT};
 use itoa::Buffer;
 use mov_base::Memory;
 use mov_edge::{Failed, Sink, write_whole};
+use mov_words::WordFault;
 
 /// Why a run ends before its text is whole.
 #[derive(Debug, Drop)]
@@ -44,7 +44,9 @@ pub(crate) fn say<E: Sink>(err: &mut E, fault: &RunFault)
     ensures { Says (E.taken err.old) (E.taken err.new) (E.faults err.old) (E.faults err.new) (line_of fault.now) }
 {
     match fault {
-        RunFault::Words(fault) => say_line(err, word_line(*fault).as_bytes()),
+        RunFault::Words(fault) => {
+            let _ = write_three(err, b"mov: words: ", fault.text().as_bytes(), b"\n");
+        }
         RunFault::Ballots(fault) => say_record(err, fault),
         RunFault::Long => say_limit(err, b"mov: ballots: longer than ", LONGEST_FILE),
         RunFault::Certificate(fault) => say_cert_line(err, fault),
@@ -57,23 +59,6 @@ pub(crate) fn say<E: Sink>(err: &mut E, fault: &RunFault)
             let _ = write_three(err, b"mov: read failed: ", name.as_str().as_bytes(), b"\n");
         }
         RunFault::Memory => say_line(err, b"mov: out of memory\n"),
-    }
-}
-
-/// The line of a fault in the words.
-fn word_line(fault: WordFault) -> &'static str
-    ensures { result.now ≡ word_line_of fault }
-{
-    match fault {
-        WordFault::NoCommand => "mov: words: no command\n",
-        WordFault::UnknownCommand => "mov: words: unknown command\n",
-        WordFault::Line => "mov: words: wrong arguments\n",
-        WordFault::UnknownRule => "mov: words: unknown rule\n",
-        WordFault::BadSeats => "mov: words: bad seats\n",
-        WordFault::SeatsMissing => "mov: words: seats missing\n",
-        WordFault::SeatsUnwanted => "mov: words: seats unwanted\n",
-        WordFault::BadBudget => "mov: words: bad budget\n",
-        WordFault::Memory => "mov: out of memory\n",
     }
 }
 

@@ -5,14 +5,14 @@ ghost use Rattle.mov_run.specs.Inputs.{found, shelf};
 ghost use Rattle.mov_run.specs.Run.{Ran, Sent, drain, outside};
 ghost use Rattle.mov_run.specs.Status.{status_number, status_of};
 ghost use Rattle.mov_run.specs.Promised.{Promised};
-ghost use Rattle.mov_run.specs.Words.{meaning};
-ghost use Rattle.mov_run.specs.declared.jobs.WordFault.{WordFault as AFault};
+ghost use Rattle.mov_words.specs.Words.{meaning};
+ghost use Rattle.mov_words.specs.declared.fault.WordFault.{WordFault as AFault};
 
-use crate::answers::{check_answer, margin_answer, show_answer, tally_answer};
-use crate::jobs::{Job, WordFault, parse};
+use crate::answers::{check_answer, drill_answer, margin_answer, show_answer, tally_answer};
 use crate::run_faults::{RunFault, say, say_line};
 use mov_base::List;
 use mov_edge::{Files, Sink, write_whole};
+use mov_words::{Job, WordFault, parse};
 use std::alloc::Global;
 
 /// How a run ended.
@@ -147,6 +147,7 @@ fn answer<F: Files>(alloc: Global, words: &[String], files: &mut F) -> Result<Ou
         Ok(Job::Margin { rule, file, budget }) => margin_answer(alloc, rule, &file, budget, files),
         Ok(Job::Check { file, cert }) => check_answer(alloc, &file, &cert, files),
         Ok(Job::Show { file }) => show_answer(alloc, &file, files),
+        Ok(Job::Drill { seed }) => drill_answer(alloc, seed),
         Err(WordFault::Memory) => Err(RunFault::Memory),
         Err(fault) => Err(RunFault::Words(fault)),
     }

@@ -1,7 +1,7 @@
 // The text of a verdict, and the statuses of verdicts and claims.
 ghost use Rattle.std.specs.Prelude.{◌≡◌, ◌++◌, IfOk, OnOk};
 ghost use Rattle.mov_run.specs.Verdicts.{refused_text, valid_text, verdict_text as text_of};
-ghost use Rattle.mov_run.specs.Status.{status_after, status_for};
+ghost use Rattle.mov_run.specs.Status.{drill_status as status_of_drill, status_after, status_for};
 
 use crate::runs::Status;
 use cert_text::written::{push_claim, push_rule};
@@ -18,6 +18,17 @@ pub(crate) fn verdict_status(verdict: Verdict) -> Status
     match verdict {
         Verdict::Valid => Status::Done,
         Verdict::No { .. } => Status::Refused,
+    }
+}
+
+/// The status of a run that wrote the summary of a drill whole, where some claim in it is bounds, or none is.
+pub(crate) fn drill_status(stopped: bool) -> Status
+    ensures { result ≡ status_of_drill stopped }
+{
+    if stopped {
+        Status::Bounds
+    } else {
+        Status::Done
     }
 }
 

@@ -124,7 +124,7 @@ fn margins_of_cycles_and_runoffs(rt: HostRuntime) -> Result<(), Fail> {
     let irv: &[&str] = &["margin", "irv", "F"];
     let twelve =
         b"movcert 1\nrule irv\nsize 3 12\nreported 0\nmargin 1\ngoal order 0 2 1\nput 1 2\nsplit 2\nsplit 2\ncut 1\nsplit 1\ncut 1 1 0\nsplit 2\nsplit 1\ncut 0 1 0\ncut 1\n";
-    let table: [(&[&str], u8, &[u8], &[u8], &[u8]); 5] = [
+    let table: [(&[&str], u8, &[u8], &[u8], &[u8]); 4] = [
         (
             condorcet,
             0,
@@ -153,16 +153,47 @@ fn margins_of_cycles_and_runoffs(rt: HostRuntime) -> Result<(), Fail> {
             b"movcert 1\nrule irv\nsize 3 10\nreported 0\nmargin 0\ngoal order 1 0 2\nsplit 2\nsplit 2\ncut 1\nsplit 1\ncut 1 1 0\nsplit 2\nsplit 1\ncut 0 0 0\ncut 0\n",
             b"VALID\nrule irv\nmargin 0\n",
         ),
-        (
-            &["margin", "irv", "F", "--budget", "1"],
-            1,
-            b"ballots,A,B,C\n5,A\n4,B,C\n3,C,A\n",
-            b"movcert 1\nrule irv\nsize 3 12\nreported 0\nbounds 0 2 budget 1\ngoal order 0 2 1\nput 1 1\nput 2 1\ncut\n",
-            b"VALID\nrule irv\nbounds 0 2 budget 1\n",
-        ),
     ];
     for (words, ends, ballots, cert, verdict) in table {
         expect_valid(&rt, rt.alloc(), words, ballots, ends, cert, verdict)?;
+    }
+    Ok(())
+}
+
+#[test]
+fn a_budget_of_one(rt: HostRuntime) -> Result<(), Fail> {
+    let table: [&[&str]; 3] = [
+        &["margin", "irv", "F", "--budget", "1"],
+        &["margin", "irv", "F", "--budget=1"],
+        &["margin", "--budget", "1", "irv", "F"],
+    ];
+    for words in table {
+        expect_valid(
+            &rt,
+            rt.alloc(),
+            words,
+            b"ballots,A,B,C\n5,A\n4,B,C\n3,C,A\n",
+            1,
+            b"movcert 1\nrule irv\nsize 3 12\nreported 0\nbounds 0 2 budget 1\ngoal order 0 2 1\nput 1 1\nput 2 1\ncut\n",
+            b"VALID\nrule irv\nbounds 0 2 budget 1\n",
+        )?;
+    }
+    Ok(())
+}
+
+#[test]
+fn a_drill_of_seven(rt: HostRuntime) -> Result<(), Fail> {
+    let alloc = rt.alloc();
+    for _ in 0..2 {
+        let mut files = MemFiles::new(alloc, 1000, Vec::new(alloc));
+        expect_text(
+            &rt,
+            alloc,
+            &["drill", "7"],
+            &mut files,
+            0,
+            b"drill 7\nsize 5 10000\nplurality margin 347 nodes 5\nborda margin 336 nodes 5\ncondorcet margin 578 nodes 5\ndhondt 7 margin 88 nodes 17\nirv margin 578 nodes 52\n",
+        )?;
     }
     Ok(())
 }

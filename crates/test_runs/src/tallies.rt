@@ -54,12 +54,15 @@ fn tallies_of_small_contests(rt: HostRuntime) -> Result<(), Fail> {
 
 #[test]
 fn what_is_wrong_with_the_words(rt: HostRuntime) -> Result<(), Fail> {
-    let table: [(&[&str], &[u8]); 21] = [
+    let table: [(&[&str], &[u8]); 24] = [
+        (&["drill"], b"wrong arguments"),
+        (&["drill", "01"], b"bad seed"),
+        (&["drill", "18446744073709551616"], b"bad seed"),
         (&["tally", "irv"], b"wrong arguments"),
         (&["tally", "dhondt", "F", "--seats"], b"wrong arguments"),
         (&["tally", "dhondt", "F", "--seat", "3"], b"wrong arguments"),
         (
-            &["tally", "dhondt", "--seats", "3", "F"],
+            &["tally", "dhondt", "F", "--seats=3", "--seats=3"],
             b"wrong arguments",
         ),
         (
